@@ -1,0 +1,5 @@
+pub mod Good
+pub mod Known
+pub mod OneFlip
+pub mod RoundTrip
+pub mod Unique

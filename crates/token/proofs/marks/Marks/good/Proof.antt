@@ -1,0 +1,13 @@
+-- `token::marks::Marks::good` meets its contract.
+-- Assumes nothing.
+use borrow.Author.Needs.{needs}
+use Rattle.token.specs.Marks.{goodMarks}
+use Rattle.token.proofs.marks.Marks.good.Statement.{statement}
+use Rattle.token.proofs.marks.Marks.good.Tie as tie
+
+returns : tie.Need-returns
+unfolding goodMarks
+returns c = search needs
+
+pub good-spec : {M : Type 1} → statement M
+good-spec = tie.close (tie.spec returns)
