@@ -1,11 +1,11 @@
 -- A flipped bit of a word is a flipped bit on the wire, alone and among other words.
 -- Assumes nothing.
-use Prim.Native.Nat.{ℕ, suc, _+_, _-_, _/_, _%_, _^_, _≤_, _<_}
-use native.Mathlib.Nat.{le-refl, le-trans, div-self, mod-self, div-eq-of-lt}
+use Prim.Native.Nat.{ℕ, suc, _+_, _-_, _/_, _%_, _^_, _<_}
+use native.Mathlib.Nat.{le-refl, div-self, mod-self, div-eq-of-lt}
 use native.Mathlib.Omega.{arith}
 use mathlib.Core.Path.{_≡_, refl, sym, ap, ap₂, _∙_}
 use mathlib.Core.Bool.{Bool, true, false, not}
-use mathlib.Core.List.{List, [], _∷_, _++_, append-assoc}
+use mathlib.Core.List.{List, _∷_, _++_, append-assoc}
 use lib.Bits.{bitXor, xor-shr, xor-zero-r}
 use lib.Dec.{eqb}
 use lib.Pow.{pow-pos, pow-lt}

@@ -1,8 +1,7 @@
 -- Each row is found under its code, so no code stands in two rows.
 -- Assumes nothing.
 use mathlib.Core.Path.{_≡_, refl}
-use mathlib.Core.List.{List, map}
-use Rattle.rules.specs.declared.Found.{Found}
+use mathlib.Core.List.{map}
 use Rattle.rules.specs.declared.Found.the-variants.{Row}
 use Rattle.rules.specs.declared.Rule.{Rule}
 use Rattle.rules.specs.Rules.{table, rowIn, ruleOf}

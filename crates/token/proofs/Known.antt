@@ -1,7 +1,7 @@
 -- The known tokens and checks of document 01, all together, as one computed fact about the rules.
 -- Assumes nothing.
 use Prim.Native.Nat.{ℕ}
-use mathlib.Core.Bool.{Bool, true, false}
+use mathlib.Core.Bool.{true, false}
 use mathlib.Core.List.{List, [], _∷_, map}
 use mathlib.Core.Path.{_≡_, refl}
 use Rattle.crc.specs.Bits.{bits, number, stream}

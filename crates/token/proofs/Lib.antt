@@ -1,5 +1,7 @@
+pub mod CommandTrip
 pub mod Good
 pub mod Known
 pub mod OneFlip
-pub mod RoundTrip
+pub mod ResponseTrip
+pub mod Second
 pub mod Unique

@@ -4,14 +4,14 @@ use Prim.Native.Nat.{ℕ, _^_, _<_}
 use native.Mathlib.Nat.{div-one}
 use mathlib.Core.Bool.{Bool, true, false}
 use mathlib.Core.List.{[], _∷_}
-use mathlib.Core.Path.{_≡_, refl, sym, _∙_}
+use mathlib.Core.Path.{_≡_, refl, _∙_}
 use lib.Bits.{bitXor}
 use Rattle.crc.specs.Bits.{stream}
 use Rattle.crc.specs.Damage.{Flip}
 use Rattle.crc.proofs.Checks.{token-flip-seen}
 use Rattle.crc.proofs.Flips.{words-flip}
 use Rattle.token.specs.Command.{commandMarks, goodCommand}
-use Rattle.token.specs.Marks.{checkRight, goodMarks}
+use Rattle.token.specs.Marks.{checkRight}
 use Rattle.token.specs.Response.{responseMarks, goodResponse}
 use Rattle.token.proofs.Good.{good-check, right-check}
 

@@ -1,8 +1,7 @@
 -- Each public operation's contract leaves one answer. Where that answer is an enum, no two of its cases give the same number and values.
 -- Assumes nothing.
-use Prim.Native.Nat.{ℕ}
 use native.Mathlib.Omega.{arith}
-use mathlib.Core.Bool.{Bool, true≢false, false≢true}
+use mathlib.Core.Bool.{true≢false, false≢true}
 use mathlib.Core.Path.{_≡_, refl, sym, ap, _∙_}
 use Rattle.token.specs.Answers.{Built, Read}
 use Rattle.token.specs.Command.{commandBuiltGives, commandReadGives}

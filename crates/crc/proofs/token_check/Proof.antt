@@ -11,7 +11,7 @@ use Rattle.crc.proofs.token_check.Tie as tie
 
 crc4-bits-requires-2 : tie.Need-crc4-bits-requires-2
 unfolding taps4 bits
-crc4-bits-requires-2 c κs = (rw (c .crc4-bits .ensures) (crc-lt taps4 0 (bits 16 (c .before .args .first))), lit≤ tt)
+crc4-bits-requires-2 c κs = (rw (c .crc4-bits .ensures) (crc-lt taps4 _ _), lit≤ tt)
 
 returns : tie.Need-returns
 unfolding crc4

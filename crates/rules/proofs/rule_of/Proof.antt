@@ -11,8 +11,7 @@ use lib.Dec.{eqb}
 use lib.ListN.{drop, getD, length}
 use lib.Seq.{drop-cons}
 use Rattle.rules.specs.declared.Rule.{Rule}
-use Rattle.rules.specs.declared.Found.{Found}
-use Rattle.rules.specs.declared.Found.the-variants.{Row, NotInTable}
+use Rattle.rules.specs.declared.Found.the-variants.{Row}
 use Rattle.rules.specs.Rules.{row, table, rowIn, ruleOf}
 use Rattle.rules.proofs.rule_of.Statement.{statement}
 use Rattle.rules.proofs.rule_of.Tie as tie

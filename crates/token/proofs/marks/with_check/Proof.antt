@@ -1,5 +1,6 @@
 -- `token::marks::with_check` meets its contract: a CRC-4 is below 16.
 -- Assumes nothing.
+use Prim.Native.Nat.{_<_}
 use native.Mathlib.Omega.{arith}
 use Rattle.crc.proofs.Words.{crc4-lt}
 use Rattle.token.specs.Marks.{withCheck}
@@ -8,7 +9,9 @@ use Rattle.token.proofs.marks.with_check.Statement.{statement}
 use Rattle.token.proofs.marks.with_check.Tie as tie
 
 add-result : tie.Need-add-result
-add-result c = omega (arith, c .token-check .ensures, crc4-lt (c .before .args .first) (c .before .args .upper))
+add-result c =
+    let small : c .token-check .result < 16 = rw (c .token-check .ensures) (crc4-lt _ _) in
+    omega arith
 
 returns : tie.Need-returns
 unfolding withCheck

@@ -1,0 +1,67 @@
+-- A built command token reads good with its own fields, and a good one is the token built from its fields.
+-- Assumes nothing.
+use Prim.Native.Nat.{ℕ, _/_, _%_, _≤_, _<_}
+use native.Mathlib.Omega.{arith}
+use mathlib.Core.Bool.{true}
+use mathlib.Core.Path.{_≡_, ap, _∙_}
+use borrow.Author.Tests.{eq-eqb}
+use Rattle.token.specs.Command.{tokenOf, commandToken, commandFirst, commandUpper, commandSecond, commandMarks, goodCommand, commandFields, commandRead}
+use Rattle.token.specs.Marks.{at, withCheck, goodMarks}
+use Rattle.token.specs.declared.command.Command.{Command}
+use Rattle.token.proofs.Good.{good-command}
+use Rattle.token.proofs.Second.{peel, upper-kept, check-right, rebuilt}
+
+pub record CommandFits (f : Command) : Type 0 where
+  pub code : f .code ≤ 63
+  pub length : f .length ≤ 63
+  pub sub-address : f .«sub_address» ≤ 255
+
+module _ (f : Command) (fits : CommandFits f) where
+  command-empty : commandUpper f % 16 ≡ 0
+  unfolding commandUpper
+  command-empty = omega arith
+
+  command-upper : commandSecond f / 16 ≡ commandUpper f / 16
+  unfolding commandSecond
+  command-upper = upper-kept (commandFirst f) (commandUpper f) command-empty
+
+  pub command-good : goodCommand (commandFirst f) (commandSecond f) ≡ true
+  unfolding goodCommand goodMarks commandMarks commandFirst commandUpper commandSecond
+  command-good =
+      let a : at 15 14 (commandFirst f) ≡ 0b01 = omega (arith, fits) in
+      let b : at 15 14 (commandSecond f) ≡ 0b01 = omega (arith, fits, command-upper) in
+      let d : at 7 6 (commandFirst f) ≡ 0b11 = omega (arith, fits) in
+      let e : at 5 4 (commandSecond f) ≡ 0b11 = omega (arith, fits, command-upper) in
+      rw (eq-eqb _ _ a, eq-eqb _ _ b, eq-eqb _ _ d, eq-eqb _ _ e, check-right (commandFirst f) (commandUpper f) command-empty)
+
+  pub command-fields : commandFields (commandFirst f) (commandSecond f) ≡ f
+  unfolding commandFields
+  command-fields =
+      let a : at 13 8 (commandFirst f) ≡ f .code = unfold commandFirst in omega (arith, fits) in
+      let b : at 5 0 (commandFirst f) ≡ f .length = unfold commandFirst in omega (arith, fits) in
+      let d : at 13 6 (commandSecond f) ≡ f .«sub_address» = unfold commandUpper in omega (arith, fits, command-upper) in
+      rw (a, b, d)
+
+  pub command-reads-back : commandRead (commandFirst f) (commandSecond f) ≡ record { good = true; fields = f }
+  unfolding commandRead
+  command-reads-back = rw (command-good, command-fields)
+
+module _ (first second : ℕ) (word : first < 65536) (word₂ : second < 65536) (good : goodCommand first second ≡ true) where
+  pub command-fields-fit : CommandFits (commandFields first second)
+  unfolding commandFields
+  command-fields-fit = record { code = omega arith; length = omega arith; sub-address = omega arith }
+
+  pub command-first-rebuilt : commandFirst (commandFields first second) ≡ first
+  unfolding commandFields commandFirst
+  command-first-rebuilt = let g = good-command first second good in omega (arith, peel first 0 6, peel first 6 2, peel first 8 6, peel first 14 2)
+
+  pub command-second-rebuilt : commandSecond (commandFields first second) ≡ second
+  unfolding commandFields commandUpper commandSecond
+  command-second-rebuilt =
+      let g = good-command first second good in
+      ap (λ (w : ℕ). withCheck w (commandUpper (commandFields first second))) command-first-rebuilt
+      ∙ rebuilt first second (commandUpper (commandFields first second)) (omega arith)
+      (omega (arith, peel second 4 2, peel second 6 8, peel second 14 2)) (g .check)
+
+  pub command-rebuilt : commandToken (commandFields first second) ≡ tokenOf first second
+  command-rebuilt = rw (command-first-rebuilt, command-second-rebuilt)

@@ -1,0 +1,42 @@
+"""CRC-4 and CRC-16, worked bit by bit from their polynomials."""
+
+CRC4_POLYNOMIAL = 0b1_0011  # x^4 + x + 1
+CRC16_POLYNOMIAL = 0b1_1000_0000_0000_0101  # x^16 + x^15 + x^2 + 1
+
+
+def bits(value, width):
+    """The bits of a number, highest first."""
+    return [value >> place & 1 for place in reversed(range(width))]
+
+
+def number(bit_list):
+    """The number that a list of bits stands for, highest first."""
+    value = 0
+    for bit in bit_list:
+        value = 2 * value + bit
+    return value
+
+
+def crc(polynomial, width, message_bits, start=0):
+    """The remainder of the message, with width zeros behind it, by the polynomial."""
+    rest = list(message_bits) + [0] * width
+    # A start value counts as if it were added to the first bits of the dividend.
+    for place, bit in enumerate(bits(start, width)):
+        rest[place] ^= bit
+    terms = [term for term, bit in enumerate(bits(polynomial, width + 1)) if bit]
+    for place in range(len(message_bits)):
+        if rest[place]:
+            for term in terms:
+                rest[place + term] ^= 1
+    return number(rest[len(message_bits):])
+
+
+def crc4(word1, word2):
+    """The CRC-4 that a token's two words ask for: bits 3-0 of word 2 do not count."""
+    return crc(CRC4_POLYNOMIAL, 4, bits(word1, 16) + bits(word2, 16)[:12])
+
+
+def crc16(words, start=0):
+    """The CRC-16 of payload words in order, each from bit 15."""
+    message_bits = [bit for word in words for bit in bits(word, 16)]
+    return crc(CRC16_POLYNOMIAL, 16, message_bits, start)

@@ -1,0 +1,85 @@
+"""The values printed in document 01, and the test of this program against them."""
+
+from .checks import crc4, crc16
+from .tokens import (
+    CONFIG_WRITE, READ, READBACK, RESET, ROWS, SYNCH, TICK, WRITE,
+    command_marks, command_token, read_command, read_response, response_marks, response_token,
+)
+
+# (code, length, sub-address), (word 1, word 2)
+COMMANDS = [
+    ((RESET, 0, 0), (0x40C0, 0x4033)),
+    ((READBACK, 2, 0), (0x4AC2, 0x403F)),
+    ((WRITE, 1, 0), (0x4DC1, 0x403A)),
+    ((WRITE, 3, 0x10), (0x4DC3, 0x4439)),
+    ((READ, 63, 255), (0x4EFF, 0x7FF1)),
+    ((SYNCH, 4, 0), (0x47C4, 0x4038)),
+    ((TICK, 0, 0), (0x48C0, 0x403C)),
+    ((TICK, 0, 63), (0x48C0, 0x4FFD)),
+    ((CONFIG_WRITE, 2, 0), (0x60C2, 0x403E)),
+    # The next two stand under "Run and compared", the last one in the trace example.
+    ((TICK, 0, 64), (0x48C0, 0x5033)),
+    ((0x24, 0, 0), (0x64C0, 0x4034)),
+    ((READ, 1, 0), (0x4EC1, 0x4037)),
+]
+
+# (STF, ME, AR, IC, module state), (word 1, word 2)
+RESPONSES = [
+    ((0, 0, 0, 0, 0), (0x8000, 0x8780)),
+    ((0, 1, 0, 0, 0), (0x9000, 0x878D)),
+    ((0, 1, 0, 1, 0), (0x9400, 0x8783)),
+]
+
+# words, their CRC-16
+CHECKS = [
+    ([0x0001], 0x8005),
+    ([0x0002], 0x800F),
+    ([0x0003], 0x000A),
+]
+
+GOOD = (True, True, True)
+
+
+def agree(what, found, wanted):
+    # Not an assert statement: python -O would leave it out.
+    if found != wanted:
+        raise AssertionError(f"{what}: document 01 has {wanted}, this program {found}")
+
+
+def test_commands():
+    for fields, words in COMMANDS:
+        agree(f"command token of {fields}", command_token(*fields), words)
+        agree(f"command marks of {words}", command_marks(*words), GOOD)
+        agree(f"command fields of {words}", read_command(*words), fields)
+        agree(f"{words} as a response", read_response(*words), None)
+
+
+def test_responses():
+    for fields, words in RESPONSES:
+        agree(f"response token of {fields}", response_token(*fields), words)
+        agree(f"response marks of {words}", response_marks(*words), GOOD)
+        agree(f"response fields of {words}", read_response(*words), fields)
+        agree(f"{words} as a command", read_command(*words), None)
+
+
+def test_checks():
+    for words, check in CHECKS:
+        agree(f"CRC-16 of {words}", crc16(words), check)
+        agree(f"CRC-16 of {words} and its check word", crc16(words + [check]), 0)
+    agree("CRC-16 of zeros", crc16([0, 0]), 0)
+    agree("CRC-4 of zeros", crc4(0, 0), 0)
+    agree("0000 0000 as a command", read_command(0, 0), None)
+
+
+def test_table():
+    agree("number of rows", len(ROWS), 8)
+    agree("code 0x24 has a row", 0x24 in ROWS, False)
+    agree("last index of TICK", ROWS[TICK][2], 63)
+
+
+def self_test():
+    """Raises AssertionError where a value of document 01 is not met."""
+    test_commands()
+    test_responses()
+    test_checks()
+    test_table()

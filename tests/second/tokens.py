@@ -1,0 +1,87 @@
+"""Command and response tokens, and the table of commands."""
+
+from .checks import crc4
+
+RESET = 0x00
+SYNCH = 0x07
+TICK = 0x08
+READBACK = 0x0A
+WRITE = 0x0D
+READ = 0x0E
+CONFIG_WRITE = 0x20
+CONFIG_READ = 0x21
+
+# code: (least length, most length, last sub-address)
+ROWS = {
+    RESET: (0, 0, 0),
+    SYNCH: (4, 4, 0),
+    TICK: (0, 0, 63),
+    READBACK: (2, 2, 0),
+    WRITE: (0, 63, 255),
+    READ: (0, 63, 255),
+    CONFIG_WRITE: (2, 2, 0),
+    CONFIG_READ: (2, 2, 0),
+}
+
+
+def field(word, high, low):
+    """Bits high to low of a word."""
+    return word >> low & (1 << high - low + 1) - 1
+
+
+def with_check(word1, word2):
+    """The two words with bits 3-0 of word 2 made the CRC-4 they ask for."""
+    return word1, word2 & 0xFFF0 | crc4(word1, word2)
+
+
+def check_right(word1, word2):
+    return field(word2, 3, 0) == crc4(word1, word2)
+
+
+def prefix_right(word1, word2, prefix):
+    return field(word1, 15, 14) == prefix and field(word2, 15, 14) == prefix
+
+
+def command_token(code, length, sub_address):
+    """The command token, or None for the refusal Argument."""
+    if code > 63 or length > 63 or sub_address > 255:
+        return None
+    word1 = 0b01 << 14 | code << 8 | 0b11 << 6 | length
+    word2 = 0b01 << 14 | sub_address << 6 | 0b11 << 4
+    return with_check(word1, word2)
+
+
+def command_marks(word1, word2):
+    """(prefix right, spare right, check right) of a command token."""
+    spare = field(word1, 7, 6) == 0b11 and field(word2, 5, 4) == 0b11
+    return prefix_right(word1, word2, 0b01), spare, check_right(word1, word2)
+
+
+def read_command(word1, word2):
+    """(code, length, sub-address) of a good command token, else None."""
+    if not all(command_marks(word1, word2)):
+        return None
+    return field(word1, 13, 8), field(word1, 5, 0), field(word2, 13, 6)
+
+
+def response_token(stf, me, ar, ic, module_state):
+    """The response token, or None for the refusal Argument."""
+    if module_state > 15:
+        return None
+    word1 = 0b10 << 14 | stf << 13 | me << 12 | ar << 11 | ic << 10 | module_state
+    return with_check(word1, 0x878 << 4)
+
+
+def response_marks(word1, word2):
+    """(prefix right, spare right, check right) of a response token."""
+    # Every fixed bit below the prefix counts as spare, those of word 2 too.
+    spare = field(word1, 9, 4) == 0 and field(word2, 13, 4) == 0x078
+    return prefix_right(word1, word2, 0b10), spare, check_right(word1, word2)
+
+
+def read_response(word1, word2):
+    """(STF, ME, AR, IC, module state) of a good response token, else None."""
+    if not all(response_marks(word1, word2)):
+        return None
+    flags = tuple(field(word1, place, place) for place in (13, 12, 11, 10))
+    return flags + (field(word1, 3, 0),)

@@ -1,0 +1,61 @@
+#!/usr/bin/env python3
+"""Makes the stored vector files again and compares; with --write, writes them.
+
+Run from anywhere: python3 tests/vectors.py [--write]
+"""
+
+import sys
+from pathlib import Path
+
+sys.dont_write_bytecode = True  # leave no __pycache__ in the repository
+
+from second import known, vector_records
+
+# Each file and its maker, which gives the number of records and the content.
+FILES = [
+    ("crates/vectors/stdin", vector_records.stdin),
+    ("crates/vectors/stdout", vector_records.stdout),
+]
+
+TOP = Path(__file__).resolve().parent.parent
+
+
+def first_difference(stored, made):
+    """Where the two first differ: the byte, counted from 0, and in a text its line."""
+    pairs = zip(stored, made)
+    shorter = min(len(stored), len(made))
+    place = next((place for place, (old, new) in enumerate(pairs) if old != new), shorter)
+    line = f" (line {made[:place].count(10) + 1})" if made.isascii() else ""
+    return f"byte {place}{line}"
+
+
+def compare(path, count, made):
+    """Says whether the stored file agrees, and returns it."""
+    stored = (TOP / path).read_bytes() if (TOP / path).is_file() else None
+    if stored is None:
+        print(f"{path}: missing")
+    elif stored != made:
+        print(f"{path}: differs, first at {first_difference(stored, made)}")
+    else:
+        print(f"{path}: {count} records, agrees")
+    return stored == made
+
+
+def write(path, count, made):
+    (TOP / path).parent.mkdir(parents=True, exist_ok=True)
+    (TOP / path).write_bytes(made)
+    print(f"{path}: {count} records, written")
+    return True
+
+
+def main(arguments):
+    if arguments not in ([], ["--write"]):
+        sys.exit(__doc__)
+    known.self_test()
+    handle = write if arguments else compare
+    results = [handle(path, *maker()) for path, maker in FILES]
+    return 0 if all(results) else 1
+
+
+if __name__ == "__main__":
+    sys.exit(main(sys.argv[1:]))
