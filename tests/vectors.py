@@ -9,12 +9,18 @@ from pathlib import Path
 
 sys.dont_write_bytecode = True  # leave no __pycache__ in the repository
 
-from second import known, vector_records
+from second import known, trace, vector_records
 
 # Each file and its maker, which gives the number of records and the content.
 FILES = [
     ("crates/vectors/stdin", vector_records.stdin),
     ("crates/vectors/stdout", vector_records.stdout),
+    ("crates/trace/stdin", trace.example_stdin),
+    ("crates/trace/stdout", trace.example_stdout),
+    ("crates/traces/stdin", trace.traces_stdin),
+    ("crates/traces/stdout", trace.traces_stdout),
+    ("examples/document-01.txt", lambda: trace.shown("document-01")),
+    ("examples/accident.txt", lambda: trace.shown("accident")),
 ]
 
 TOP = Path(__file__).resolve().parent.parent
@@ -52,6 +58,7 @@ def main(arguments):
     if arguments not in ([], ["--write"]):
         sys.exit(__doc__)
     known.self_test()
+    trace.self_test()
     handle = write if arguments else compare
     results = [handle(path, *maker()) for path, maker in FILES]
     return 0 if all(results) else 1

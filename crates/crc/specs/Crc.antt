@@ -2,9 +2,10 @@
 -- A polynomial of degree w is given by its taps, its w coefficients from that of x^(w-1) down to the constant one. A register is w bits.
 -- Assumes nothing.
 use Prim.Native.Nat.{ℕ, _/_}
-use mathlib.Core.Bool.{Bool, true, false, not, _&&_}
+use mathlib.Core.Bool.{Bool, true, false, not, _&&_, _||_}
 use mathlib.Core.List.{List, [], _∷_, _++_}
-use lib.ListN.{length}
+use lib.Dec.{eqb, ltb}
+use lib.ListN.{length, take, getD}
 use Rattle.crc.specs.Bits.{bits, number, stream}
 
 -- b, turned over where f says so
@@ -51,3 +52,7 @@ crc16After before words = crc taps16 before (stream 16 words)
 -- the CRC-16 of words: start value 0, no final change
 abbrev pub crc16 : List ℕ → ℕ
 crc16 words = crc16After 0 words
+
+-- the first n words agree with the check word behind them; no words have none
+unfoldable pub agrees : ℕ → List ℕ → Bool
+agrees n words = eqb n 0 || (ltb n (length words) && eqb (crc16 (take n words)) (getD words n 0))

@@ -3,6 +3,7 @@ ghost use mathlib.Core.Path.{_≡_};
 ghost use Prim.Native.Nat.{_+_, _*_, _≤_, _<_};
 ghost use mathlib.Core.List.{[], _∷_};
 ghost use Rattle.crc.specs.Bits.{bits, wordsOf};
+ghost use Rattle.crc.specs.Crc;
 ghost use Rattle.crc.specs.Crc.{crc, taps4, taps16, crc4, crc16, crc16After};
 
 // What x^4 + x + 1 has below x^4.
@@ -87,6 +88,19 @@ pub fn check_words(words: &[u16]) -> u16
         i += 1;
     }
     check
+}
+
+// Whether the first n words agree with the check word behind them. No words have none, so they agree.
+pub fn agrees(words: &[u16], n: usize) -> bool
+    ensures { λ r. ⌜ r ≡ Crc.agrees n (now (words .entry)) ⌝ }
+{
+    if n == 0 {
+        return true;
+    }
+    if words.len() <= n {
+        return false;
+    }
+    check_words(&words[..n]) == words[n]
 }
 
 // The word of two bytes.

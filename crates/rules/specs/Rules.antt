@@ -1,5 +1,5 @@
 -- The one table of command rules: code, length from .. to, sub-address 0 .. to.
-use Prim.Native.Nat.{ℕ}
+use Prim.Native.Nat.{ℕ, _+_}
 use mathlib.Core.Bool.{cond}
 use mathlib.Core.List.{List, [], _∷_}
 use lib.Dec.{eqb}
@@ -46,3 +46,7 @@ rowIn (r ∷ rest) code = cond (eqb (r .code) code) (Row r) (rowIn rest code)
 -- what the table has under a code
 unfoldable pub ruleOf : ℕ → Found
 ruleOf code = rowIn table code
+
+-- the number of words of a message: 2 for length 0, else length + 3
+unfoldable pub messageWords : ℕ → ℕ
+messageWords length = cond (eqb length 0) 2 (length + 3)

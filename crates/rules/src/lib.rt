@@ -1,6 +1,6 @@
 // The two tables that every other crate takes its numbers from: the eight command rules, and the refusal numbers.
 ghost use mathlib.Core.Path.{_≡_};
-ghost use Rattle.rules.specs.Rules.{ruleOf};
+ghost use Rattle.rules.specs.Rules.{ruleOf, messageWords};
 
 pub mod refusal;
 
@@ -97,4 +97,15 @@ pub fn rule_of(code: u8) -> Found
         i += 1;
     }
     Found::NotInTable
+}
+
+// The number of words of a message whose token has a length: the token, and where the length is not 0 as many words
+// and their check.
+pub fn message_words(length: u8) -> usize
+    ensures { λ r. ⌜ r ≡ messageWords length ⌝ }
+{
+    if length == 0 {
+        return 2;
+    }
+    length as usize + 3
 }

@@ -35,10 +35,14 @@ commandSecond f = withCheck (commandFirst f) (commandUpper f)
 abbrev pub commandToken : Command → CommandToken
 commandToken f = tokenOf (commandFirst f) (commandSecond f)
 
--- Argument for a code or a length above 63 or a sub-address above 255, else the token with these fields
+-- code and length are at most 63, and the sub-address at most 255
+unfoldable pub commandFits : Command → Bool
+commandFits f = leb (f .code) 63 && leb (f .length) 63 && leb (f .«sub_address») 255
+
+-- Argument for a field that does not fit, else the token with these fields
 unfoldable pub commandBuilt : ℕ → ℕ → ℕ → Built CommandToken
 commandBuilt code length sub =
-    cond (leb code 63 && leb length 63 && leb sub 255)
+    cond (commandFits (command code length sub))
     (record { refusal = refusal.None; token = commandToken (command code length sub) })
     (record { refusal = refusal.Argument; token = tokenOf 0 0 })
 

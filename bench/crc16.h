@@ -1,0 +1,9 @@
+#include <stddef.h>
+#include <stdint.h>
+
+uint32_t crc16_by_nibbles(const uint8_t *bytes, size_t count);
+uint32_t crc16_by_bytes(const uint8_t *bytes, size_t count);
+uint32_t crc16_by_bits(const uint8_t *bytes, size_t count);
+
+/* Once, before crc16_by_bytes. */
+void crc16_make_table(void);

@@ -1,0 +1,102 @@
+-- What a released message does: judged, and where accepted its command acts.
+use Prim.Native.Nat.{ℕ, _+_, _*_, _%_, _^_}
+use mathlib.Core.Bool.{Bool, false, cond, not, _&&_}
+use mathlib.Core.List.{List, _++_}
+use lib.Dec.{eqb}
+use lib.ListN.{length, take, drop, getD}
+use Rattle.judge.specs.Judge.{anySet, judgement, wordPlace}
+use Rattle.judge.specs.declared.Bases.{Bases}
+use Rattle.rules.specs.Rules.{reset, synch, tick, write, configWrite, configRead}
+use Rattle.token.specs.Response.{clean}
+use Rattle.token.specs.declared.command.Command.{Command}
+use Rattle.token.specs.declared.response.Status.{Status}
+use Rattle.card.specs.declared.Card.{Card}
+use Rattle.card.specs.declared.Message.{Message}
+use Rattle.card.specs.Sending.{tokenHeard, fields}
+use Rattle.card.specs.State.{emptied, withPort, withMessage}
+
+-- ---- effects
+
+abbrev pub basesOf : ℕ → ℕ → Bases
+basesOf w r = record { «write_base» = w; «read_base» = r }
+
+-- RESET: both bases 0. CONFIG: the base is 32 bits, first word high.
+unfoldable pub basesAfter : Bases → ℕ → ℕ → Bases
+basesAfter b code value =
+    cond (eqb code (reset .code)) (basesOf 0 0)
+    (cond (eqb code (configWrite .code)) (basesOf value (b .«read_base»))
+    (cond (eqb code (configRead .code)) (basesOf (b .«write_base») value)
+    b))
+
+-- SYNCH: time = its 64 bits, first word highest. TICK: time + 2^index modulo 2^64.
+unfoldable pub timeAfter : ℕ → Command → ℕ → ℕ
+timeAfter time f value =
+    cond (eqb (f .code) (synch .code)) value
+    (cond (eqb (f .code) (tick .code)) ((time + 2 ^ (f .«sub_address»)) % 2 ^ 64)
+    time)
+
+-- WRITE: the words go to a place onward
+unfoldable pub written : List ℕ → ℕ → List ℕ → List ℕ
+written memory place block = take place memory ++ block ++ drop (place + length block) memory
+
+-- ---- the message
+
+-- payload word k, counted from 0
+abbrev pub payloadAt : Card → ℕ → ℕ
+payloadAt c k = getD (c .port .message .words) (2 + k) 0
+
+-- the payload's first two words as 32 bits, and its first four as 64, the first highest
+abbrev pub long : Card → ℕ
+long c = payloadAt c 0 * 65_536 + payloadAt c 1
+
+abbrev pub longer : Card → ℕ
+longer c = (long c * 65_536 + payloadAt c 2) * 65_536 + payloadAt c 3
+
+-- the block of a WRITE
+abbrev pub block : Card → List ℕ
+block c = take (fields c .length) (drop 2 (c .port .message .words))
+
+-- the words received so far
+abbrev pub received : Message → List ℕ
+received m = take (m .count) (m .words)
+
+-- a message of no bits
+unfoldable pub silent : Card → ℕ → Bool
+silent c left = eqb (c .port .message .count) 0 && eqb left 0
+
+-- steps 1 to 5
+unfoldable pub verdict : Card → ℕ → Status
+verdict c left = judgement (c .size) (c .bases) (received (c .port .message)) left
+
+-- step 6: the command acts, the status bits become 0, and its token becomes the last token
+unfoldable pub acted : Card → Card
+acted c = record {
+  size = c .size;
+  time = timeAfter (c .time) (fields c) (longer c);
+  bases = basesAfter (c .bases) (fields c .code) (long c);
+  stf = c .stf;
+  «module_state» = c .«module_state»;
+  port = record { status = clean; last = tokenHeard c; message = emptied false };
+}
+
+-- a refused message sets exactly the named bits, clears the others, and changes nothing else
+unfoldable pub noted : Card → Status → Card
+noted c bits = withPort c (record { status = bits; last = c .port .last; message = emptied false })
+
+-- the card after release. A message of no bits changes nothing at all.
+unfoldable pub ended : Card → ℕ → Card
+ended c left =
+    cond (silent c left) (withMessage c (emptied false))
+    (cond (anySet (verdict c left)) (noted c (verdict c left)) (acted c))
+
+-- the message is an accepted WRITE
+unfoldable pub writes : Card → ℕ → Bool
+writes c left = not (silent c left) && not (anySet (verdict c left)) && eqb (fields c .code) (write .code)
+
+-- the memory with the block at write base + sub-address
+unfoldable pub stored : Card → List ℕ → List ℕ
+stored c memory = written memory (wordPlace (c .bases .«write_base») (fields c .«sub_address»)) (block c)
+
+-- the memory after release
+unfoldable pub endedMemory : Card → List ℕ → ℕ → List ℕ
+endedMemory c memory left = cond (writes c left) (stored c memory) memory

@@ -1,0 +1,5 @@
+pub mod Acting
+pub mod Card
+pub mod Run
+pub mod Sending
+pub mod State

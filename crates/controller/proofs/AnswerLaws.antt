@@ -1,0 +1,73 @@
+-- What the answer reader's tests tell.
+-- Assumes nothing.
+use Prim.Native.Nat.{ℕ, _≤_}
+use mathlib.Core.Bool.{Bool, true, false, cond, false≢true}
+use mathlib.Core.List.{List, [], _∷_}
+use mathlib.Core.Path.{_≡_, refl, sym, ap, _∙_}
+use borrow.Author.Tests.{eqb-true, leb-true}
+use denote.Enum.Declared.{tagOf}
+use lib.Dec.{eqb, leb, lit<}
+use lib.ListN.{length, getD}
+use types.Run.{OneOf, miss}
+use Rattle.rules.specs.Refusals as refusal
+use Rattle.rules.specs.Rules.{messageWords}
+use Rattle.token.specs.Answers.{Read}
+use Rattle.token.specs.Response.{responseRead}
+use Rattle.token.specs.declared.response.Response.{Response}
+use Rattle.controller.specs.Answers.{Answer, noFields, readingGives, readRefusal, tokenGood, fieldsRead, answerRead}
+use Rattle.controller.specs.declared.Reading.{Reading}
+use Rattle.controller.specs.declared.Reading.the-variants.{Good, BadPayload, BadToken, Argument, Count}
+use Rattle.controller.proofs.MessageLaws.{passed-by}
+use Rattle.controller.proofs.Reading.{the-type}
+
+-- an answer that is not refused has a length up to 63, and as many words as that asks for
+pub read-passed : (len count : ℕ) → readRefusal len count ≡ refusal.None → (len ≤ 63) × (count ≡ messageWords len)
+unfolding readRefusal
+read-passed len count h =
+    let (short, same) = passed-by (leb len 63) (eqb count (messageWords len)) refusal.Argument refusal.Count (lit< tt) (lit< tt) h in
+    (leb-true len 63 short, eqb-true count (messageWords len) same)
+
+-- what reading the first two words as a response token tells
+pub token-read : (words : List ℕ) (good : Bool) (f : Response)
+    → _≡_ {A = Read Response} (record { good = good; fields = f }) (responseRead (getD words 0 0) (getD words 1 0))
+    → (tokenGood words ≡ good) × (fieldsRead words ≡ f)
+unfolding tokenGood fieldsRead responseRead
+token-read words good f h = (sym (ap (λ (r : Read Response). r .good) h), sym (ap (λ (r : Read Response). r .fields) h))
+
+shown-by : (passed : Bool) (refused : ℕ) (answer : Answer)
+    → cond passed answer (record { refusal = refused; token = false; payload = false; fields = noFields }) .payload ≡ true
+    → passed ≡ true
+shown-by true refused answer h = refl
+shown-by false refused answer h = absurd (false≢true h)
+
+pub record GoodAnswer (f : Response) (len : ℕ) (words : List ℕ) : Type 0 where
+  pub shown : answerRead len words .payload ≡ true
+  pub fields : answerRead len words .fields ≡ f
+  pub count : length words ≡ messageWords len
+
+good-count : (len : ℕ) (words : List ℕ) → answerRead len words .payload ≡ true → length words ≡ messageWords len
+unfolding answerRead
+good-count len words h =
+    let passed = shown-by (eqb (readRefusal len (length words)) refusal.None) _ _ h in
+    read-passed len (length words) (eqb-true (readRefusal len (length words)) refusal.None passed) .1
+
+-- what the reader's answer Good tells
+pub answer-good : (r : Reading) (f : Response) (len : ℕ) (words : List ℕ) → readingGives r ≡ answerRead len words → r ≡ Good f
+    → GoodAnswer f len words
+answer-good r f len words read good =
+    let same : readingGives (Good f) ≡ answerRead len words = ap readingGives (sym good) ∙ read in
+    let shown : answerRead len words .payload ≡ true = sym (ap (λ (a : Answer). a .payload) same) in
+    record { shown = shown; fields = sym (ap (λ (a : Answer). a .fields) same); count = good-count len words shown }
+
+not-good : (r : Reading) → OneOf (1 ∷ 2 ∷ 3 ∷ 4 ∷ []) (tagOf the-type r) → readingGives r .payload ≡ false
+not-good (Good f) k = absurd (miss (1 ∷ 2 ∷ 3 ∷ 4 ∷ []) 0 tt k)
+not-good (BadPayload f) k = refl
+not-good BadToken k = refl
+not-good Argument k = refl
+not-good Count k = refl
+
+-- what each other answer tells: there is no payload to show
+pub answer-not-good : (r : Reading) (len : ℕ) (words : List ℕ) → readingGives r ≡ answerRead len words
+    → OneOf (1 ∷ 2 ∷ 3 ∷ 4 ∷ []) (tagOf the-type r)
+    → answerRead len words .payload ≡ false
+answer-not-good r len words read k = sym (ap (λ (a : Answer). a .payload) read) ∙ not-good r k

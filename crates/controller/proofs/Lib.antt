@@ -1,0 +1,4 @@
+pub mod AnswerLaws
+pub mod Known
+pub mod MessageLaws
+pub mod Unique

@@ -1,0 +1,39 @@
+-- Each public operation's contract leaves one answer, and one content of the buffer that it was lent. Where the answer is
+-- an enum, it is found again from its number and values, so no two of its cases give the same.
+-- κs are the call's lifetimes, a its arguments, r and s two answers, e and f the parameters at exit.
+-- Assumes nothing.
+use mathlib.Core.Bool.{cond}
+use mathlib.Core.Path.{_≡_, refl, sym, ap, _∙_}
+use denote.Ref.{now}
+use lib.Dec.{eqb}
+use Rattle.rules.specs.Refusals as refusal
+use Rattle.controller.specs.Answers.{Answer, readingGives}
+use Rattle.controller.specs.declared.Reading.{Reading}
+use Rattle.controller.specs.declared.Reading.the-variants.{Good, BadPayload, BadToken, Argument, Count}
+use Rattle.controller.proofs.answer.payload_of.Reads as payload-of
+use Rattle.controller.proofs.answer.read_answer.Reads as read-answer
+use Rattle.controller.proofs.message.lay.Reads as lay
+
+pub one-lay : (κs : _) (a : _) (r s : _) (e f : _) → lay.Post κs a r e → lay.Post κs a s f
+    → (r ≡ s) × (now (e .1 .1 .1 .1 .0) ≡ now (f .1 .1 .1 .1 .0))
+one-lay κs a r s e f p q = (p .0 ∙ sym (q .0), p .1 ∙ sym (q .1))
+
+readingOf : Answer → Reading
+readingOf a =
+    cond (eqb (a .refusal) refusal.Argument) Argument
+    (cond (eqb (a .refusal) refusal.Count) Count
+    (cond (a .token) (cond (a .payload) (Good (a .fields)) (BadPayload (a .fields))) BadToken))
+
+reading-found : (r : Reading) → readingOf (readingGives r) ≡ r
+unfolding readingOf
+reading-found (Good f) = refl
+reading-found (BadPayload f) = refl
+reading-found BadToken = refl
+reading-found Argument = refl
+reading-found Count = refl
+
+pub one-read-answer : (κs : _) (a : _) (r s : _) (e f : _) → read-answer.Post κs a r e → read-answer.Post κs a s f → r ≡ s
+one-read-answer κs a r s e f p q = sym (reading-found r) ∙ ap readingOf (p ∙ sym q) ∙ reading-found s
+
+pub one-payload-of : (κs : _) (a : _) (r s : _) (e f : _) → payload-of.Post κs a r e → payload-of.Post κs a s f → now r ≡ now s
+one-payload-of κs a r s e f p q = p ∙ sym q

@@ -1,0 +1,22 @@
+-- `controller::message::lay_refusal` meets its contract: the tests say which case holds.
+-- Assumes nothing.
+use borrow.Author.Needs.{needs}
+use borrow.Author.Tests.{le-leb, lt-leb}
+use Rattle.controller.specs.Messages.{layRefusal}
+use Rattle.controller.proofs.message.lay_refusal.Statement.{statement}
+use Rattle.controller.proofs.message.lay_refusal.Tie as tie
+
+returns : tie.Need-returns
+unfolding layRefusal
+returns c = simp (c .before .before .before .before .pre, ← c .before .before .before .block-fits .ensures, c .before .before .if1 .taken, ← c .before .message-words .ensures, le-leb _ _ (c .if2 .taken))
+
+returns-2 : tie.Need-returns-2
+unfolding layRefusal
+returns-2 c = simp (c .before .before .before .before .pre, ← c .before .before .before .block-fits .ensures, c .before .before .if1 .taken, ← c .before .message-words .ensures, lt-leb _ _ (c .if2 .left))
+
+returns-3 : tie.Need-returns-3
+unfolding layRefusal
+returns-3 c = simp (c .before .before .pre, ← c .before .block-fits .ensures, c .if1 .left)
+
+pub lay-refusal-spec : {M : Type 1} → statement M
+lay-refusal-spec = tie.close (tie.spec (λ c κs. search needs) (λ c κs. search needs) returns returns-2 returns-3)

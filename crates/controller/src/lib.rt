@@ -1,0 +1,52 @@
+// The controller: builds command messages, reads answers, and makes the sure write.
+use token::response::Response;
+
+pub mod answer;
+pub mod message;
+
+// What building a message gives: the refusal's number, 0 for none, and the number of words written.
+pub struct Laid {
+    pub refusal: u8,
+    pub words: usize,
+}
+
+// What reading an answer gives: which of token and payload failed, with the fields where the token is good.
+pub enum Reading {
+    Good(Response),
+    BadPayload(Response),
+    BadToken,
+    Argument,
+    Count,
+}
+
+// A sure write that goes on: the turn says what comes next.
+pub struct SureWrite {
+    pub length: u32,
+    pub sub_address: u32,
+    pub turn: u8,
+}
+
+// What starting one gives.
+pub enum Started {
+    Sure(SureWrite),
+    Argument,
+}
+
+pub enum Verdict {
+    NotYet,
+    Done,
+    Unsure,
+}
+
+// What asking for the next message gives: the refusal's number, 0 for none, the number of words written, and the state after.
+pub struct Asked {
+    pub refusal: u8,
+    pub words: usize,
+    pub state: SureWrite,
+}
+
+// What giving the words that came back gives.
+pub struct Given {
+    pub refusal: u8,
+    pub state: SureWrite,
+}

@@ -1,0 +1,27 @@
+-- `exchange::word` meets its contract: the tests say which case holds.
+-- Assumes nothing.
+use Rattle.card.specs.Card.{exchanged}
+use Rattle.rules.proofs.Tests.{tests}
+use Rattle.card.proofs.Laws.{lent, in-range}
+use mathlib.Core.Path.{sym, _∙_}
+use lib.ListN.{length}
+use borrow.Author.Needs.{needs}
+use Rattle.exchange.proofs.word.Statement.{statement}
+use Rattle.exchange.proofs.word.Tie as tie
+
+returns : tie.Need-returns
+unfolding exchanged
+returns c = search (tests, ← c .before .word-refusal .ensures)
+
+word-sent-requires : tie.Need-word-sent-requires
+word-sent-requires c κs =
+    let a = c .before .before .before .args in
+    let l = lent (a .card) (length (a .memory .now)) (sym (c .before .word-refusal .ensures) ∙ c .if1 .left) in
+    (l .same, in-range (a .card) (l .ranged) .module-state)
+
+returns-2 : tie.Need-returns-2
+unfolding exchanged
+returns-2 c = search (tests, ← c .before .before .before .before .word-refusal .ensures, c .with-message .ensures, c .before .took .ensures, c .before .before .word-sent .ensures)
+
+pub word-spec : {M : Type 1} → statement M
+word-spec = tie.close (tie.spec (λ c κs. search needs) returns word-sent-requires (λ c κs. search needs) (λ c κs. search needs) returns-2)

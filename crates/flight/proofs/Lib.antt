@@ -1,0 +1,4 @@
+pub mod Apart
+pub mod Gives
+pub mod Trip
+pub mod Unique

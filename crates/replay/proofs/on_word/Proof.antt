@@ -1,0 +1,13 @@
+-- `replay::on_word` meets its contract: the code is the definition.
+-- Assumes nothing.
+use Rattle.replay.specs.Replay.{onWord}
+use borrow.Author.Needs.{needs}
+use Rattle.replay.proofs.on_word.Statement.{statement}
+use Rattle.replay.proofs.on_word.Tie as tie
+
+returns : tie.Need-returns
+unfolding onWord
+returns c = simp (c .said .ensures, c .before .word .ensures)
+
+pub on-word-spec : {M : Type 1} → statement M
+on-word-spec = tie.close (tie.spec (λ c κs. search needs) (λ c κs. search needs) returns)

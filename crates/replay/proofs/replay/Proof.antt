@@ -1,0 +1,44 @@
+-- `replay::replay` meets its contract: the tests on the kind say which case holds.
+-- Assumes nothing.
+use Rattle.replay.specs.Replay.{replayed, replayedMemory}
+use mathlib.Core.Path.{refl}
+use borrow.Author.Tests.{ne-eqb}
+use borrow.Author.Needs.{needs}
+use Rattle.replay.proofs.replay.Statement.{statement}
+use Rattle.replay.proofs.replay.Tie as tie
+
+returns : tie.Need-returns
+unfolding replayed replayedMemory
+returns c = rw (c .before .if1 .taken) (c .on-select .ensures, refl)
+
+returns-2 : tie.Need-returns-2
+unfolding replayed replayedMemory
+returns-2 c = rw (c .before .before .if2 .taken) (c .on-word .ensures, refl)
+
+returns-3 : tie.Need-returns-3
+unfolding replayed replayedMemory
+returns-3 c = rw (c .before .before .before .before .if3 .taken) (c .before .before .on-release .ensures)
+
+returns-4 : tie.Need-returns-4
+unfolding replayed replayedMemory
+returns-4 c = rw (c .before .if4 .taken) (c .on-module .ensures, refl)
+
+returns-5 : tie.Need-returns-5
+unfolding replayed replayedMemory
+returns-5 c = simp (ne-eqb _ _ (c .before .before .before .if1 .left), ne-eqb _ _ (c .before .before .if2 .left), ne-eqb _ _ (c .before .if3 .left), ne-eqb _ _ (c .if4 .left)) (refl, refl)
+
+pub replay-spec : {M : Type 1} → statement M
+replay-spec =
+    tie.close
+    (tie.spec
+    (λ c κs. search needs)
+    returns
+    (λ c κs. search needs)
+    (λ c. search needs)
+    returns-2
+    (λ c κs. search needs)
+    (λ c. search needs)
+    returns-3
+    (λ c κs. search needs)
+    returns-4
+    returns-5)

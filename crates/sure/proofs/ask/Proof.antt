@@ -1,0 +1,38 @@
+-- `sure::ask` meets its contract: the tests say which case holds.
+-- Assumes nothing.
+use mathlib.Core.Bool.{true, false}
+use mathlib.Core.Path.{_≡_, refl}
+use borrow.Author.Needs.{needs}
+use Rattle.controller.specs.Sure.{isAsk, outOfState, askRefusal, asked, askedBuffer}
+use Rattle.sure.proofs.ask.Statement.{statement}
+use Rattle.sure.proofs.ask.Tie as tie
+
+returns : tie.Need-returns
+unfolding asked askedBuffer askRefusal
+returns c =
+    let s = c .before .before .before .before .args .state in
+    let out : outOfState s ≡ true = cc in
+    simp out (refl, refl)
+
+ask-in-turn-requires : tie.Need-ask-in-turn-requires
+ask-in-turn-requires c κs = (cc, cc)
+
+returns-3 : tie.Need-returns-3
+unfolding asked askedBuffer askRefusal
+returns-3 c =
+    let s = c .before .before .before .before .before .before .args .state in
+    let inside : outOfState s ≡ false = cc in
+    let early : isAsk (s .turn) ≡ false = cc in
+    simp (inside, early) (refl, refl)
+
+pub ask-spec : {M : Type 1} → statement M
+ask-spec =
+    tie.close
+    (tie.spec
+    (λ c κs. search needs)
+    returns
+    (λ c κs. search needs)
+    ask-in-turn-requires
+    (λ c. search needs)
+    (λ c. search needs)
+    returns-3)

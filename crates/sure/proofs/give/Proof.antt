@@ -1,0 +1,29 @@
+-- `sure::give` meets its contract: the tests say which case holds.
+-- Assumes nothing.
+use mathlib.Core.Bool.{true, false}
+use mathlib.Core.Path.{_≡_}
+use borrow.Author.Needs.{needs}
+use Rattle.controller.specs.Sure.{isGive, outOfState, giveRefusal, given}
+use Rattle.sure.proofs.give.Statement.{statement}
+use Rattle.sure.proofs.give.Tie as tie
+
+returns : tie.Need-returns
+unfolding given giveRefusal
+returns c =
+    let s = c .before .before .before .args .state in
+    let out : outOfState s ≡ true = cc in
+    simp out
+
+give-in-turn-requires : tie.Need-give-in-turn-requires
+give-in-turn-requires c κs = (cc, cc)
+
+returns-3 : tie.Need-returns-3
+unfolding given giveRefusal
+returns-3 c =
+    let s = c .before .before .before .before .before .args .state in
+    let inside : outOfState s ≡ false = cc in
+    let early : isGive (s .turn) ≡ false = cc in
+    simp (inside, early)
+
+pub give-spec : {M : Type 1} → statement M
+give-spec = tie.close (tie.spec (λ c κs. search needs) returns (λ c κs. search needs) give-in-turn-requires (λ c. search needs) returns-3)

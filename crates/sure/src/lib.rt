@@ -1,0 +1,288 @@
+// The sure write: READBACK, WRITE, READBACK. The rules hold for any command in the middle, of which WRITE is one use.
+ghost use mathlib.Core.Path.{_≡_};
+ghost use mathlib.Core.Bool.{true, false, cond, _&&_};
+ghost use lib.Dec.{eqb};
+ghost use lib.ListN.{length};
+ghost use Rattle.token.specs.Command.{commandFits, commandFirst, commandSecond};
+ghost use Rattle.controller.specs.Messages.{laid, bufferAfter};
+ghost use Rattle.controller.specs.Sure.{commandAt, isAsk, isGive, isClean, passes, confirms, turnAfter, writeCommand, withTurn, startedGives, started, outOfState, asked, askedBuffer, given, verdictOf};
+use controller::Asked;
+use controller::Given;
+use controller::Laid;
+use controller::Reading;
+use controller::Started;
+use controller::SureWrite;
+use controller::Verdict;
+use controller::answer::read_answer;
+use controller::message::lay;
+use rules::refusal;
+use token::command::Command;
+use token::command::CommandBuilt;
+use token::command::CommandToken;
+use token::response::Status;
+
+// The turns: each message is asked for, and then the words that came back with it are given.
+const ASK_FIRST: u8 = 0;
+
+const GIVE_FIRST: u8 = 1;
+
+const ASK_COMMAND: u8 = 2;
+
+const GIVE_COMMAND: u8 = 3;
+
+const ASK_LAST: u8 = 4;
+
+const GIVE_LAST: u8 = 5;
+
+const DONE: u8 = 6;
+
+const UNSURE: u8 = 7;
+
+const READBACK: Command = Command {
+    code: rules::READBACK.code,
+    length: rules::READBACK.most_length,
+    sub_address: 0,
+};
+
+// ---- any command in the middle
+
+// The command of a turn's message.
+fn command_at(middle: Command, turn: u8) -> Command
+    ensures { λ r. ⌜ r ≡ commandAt middle turn ⌝ }
+{
+    if (turn == ASK_COMMAND) | (turn == GIVE_COMMAND) {
+        return middle;
+    }
+    READBACK
+}
+
+fn is_ask(turn: u8) -> bool
+    ensures { λ r. ⌜ r ≡ isAsk turn ⌝ }
+{
+    (turn == ASK_FIRST) | (turn == ASK_COMMAND) | (turn == ASK_LAST)
+}
+
+fn is_give(turn: u8) -> bool
+    ensures { λ r. ⌜ r ≡ isGive turn ⌝ }
+{
+    (turn == GIVE_FIRST) | (turn == GIVE_COMMAND) | (turn == GIVE_LAST)
+}
+
+// Lays the message that a turn asks for.
+fn lay_turn(middle: Command, turn: u8, block: &[u16], buffer: &mut [u16]) -> Laid
+    ensures { λ r. ⌜ r ≡ laid (commandAt middle turn) (now (block .entry)) (length (now (buffer .entry))) ⌝ }
+    ensures { λ _. ⌜ now (buffer .exit) ≡ bufferAfter (commandAt middle turn) (now (block .entry)) (now (buffer .entry)) ⌝ }
+{
+    let command = command_at(middle, turn);
+    lay(
+        command.code as u32,
+        command.length as u32,
+        command.sub_address as u32,
+        block,
+        buffer,
+    )
+}
+
+fn is_clean(status: Status) -> bool
+    ensures { λ r. ⌜ r ≡ isClean status ⌝ }
+{
+    !(status.me | status.ar | status.ic)
+}
+
+// Whether two words are the token of a command.
+fn is_token(command: Command, first: u16, second: u16) -> bool
+    requires { ⌜ commandFits command ≡ true ⌝ }
+    ensures { λ r. ⌜ r ≡ (eqb first (commandFirst command) && eqb second (commandSecond command)) ⌝ }
+{
+    let CommandBuilt::Token(token) = CommandToken::new(
+        command.code as u32,
+        command.length as u32,
+        command.sub_address as u32,
+    ) else {
+        return false;
+    };
+    (first == token.first) & (second == token.second)
+}
+
+// The turn after the first READBACK's words. A refused READBACK brings zeros, whose CRC-16 agrees: so the payload has
+// to be a good command token too.
+fn after_first(words: &[u16]) -> u8
+    ensures { λ r. ⌜ r ≡ cond (passes (now (words .entry))) 2 7 ⌝ }
+{
+    let Reading::Good(_) = read_answer(words, READBACK.length as u32) else {
+        return UNSURE;
+    };
+    let first = words[2];
+    let second = words[3];
+    let token = CommandToken { first, second };
+    let good = token.marks().good();
+    if good { ASK_COMMAND } else { UNSURE }
+}
+
+// The turn after the last READBACK's words.
+fn after_last(middle: Command, words: &[u16]) -> u8
+    requires { ⌜ commandFits middle ≡ true ⌝ }
+    ensures { λ r. ⌜ r ≡ cond (confirms middle (now (words .entry))) 6 7 ⌝ }
+{
+    let Reading::Good(fields) = read_answer(words, READBACK.length as u32) else {
+        return UNSURE;
+    };
+    let sure = is_clean(fields.status) & is_token(middle, words[2], words[3]);
+    if sure { DONE } else { UNSURE }
+}
+
+// The turn after the words of a turn. Those that come back with the command are not judged.
+fn turn_after(middle: Command, turn: u8, words: &[u16]) -> u8
+    requires { ⌜ commandFits middle ≡ true ⌝ }
+    ensures { λ r. ⌜ r ≡ turnAfter middle turn (now (words .entry)) ⌝ }
+{
+    if turn == GIVE_FIRST {
+        return after_first(words);
+    }
+    if turn == GIVE_COMMAND {
+        return ASK_LAST;
+    }
+    after_last(middle, words)
+}
+
+// ---- the sure write
+
+fn write_command(state: SureWrite) -> Command
+    requires { ⌜ outOfState state ≡ false ⌝ }
+    ensures { λ r. ⌜ r ≡ writeCommand state ⌝ }
+{
+    Command {
+        code: rules::WRITE.code,
+        length: state.length as u8,
+        sub_address: state.sub_address as u8,
+    }
+}
+
+fn with_turn(state: SureWrite, turn: u8) -> SureWrite
+    ensures { λ r. ⌜ r ≡ withTurn state turn ⌝ }
+{
+    SureWrite {
+        length: state.length,
+        sub_address: state.sub_address,
+        turn,
+    }
+}
+
+// Starts a sure write of a block of so many words at a sub-address.
+pub fn start(length: u32, sub_address: u32) -> Started
+    ensures { λ r. ⌜ startedGives r ≡ started length «sub_address» ⌝ }
+{
+    if length > CommandToken::MOST_LENGTH {
+        return Started::Argument;
+    }
+    if sub_address > CommandToken::MOST_SUB_ADDRESS {
+        return Started::Argument;
+    }
+    Started::Sure(SureWrite {
+        length,
+        sub_address,
+        turn: ASK_FIRST,
+    })
+}
+
+fn out_of_state(state: SureWrite) -> bool
+    ensures { λ r. ⌜ r ≡ outOfState state ⌝ }
+{
+    (state.length > CommandToken::MOST_LENGTH)
+        | (state.sub_address > CommandToken::MOST_SUB_ADDRESS)
+        | (state.turn > UNSURE)
+}
+
+// Asks for the message of a turn that has one.
+fn ask_in_turn(state: SureWrite, block: &[u16], buffer: &mut [u16]) -> Asked
+    requires { ⌜ (outOfState state ≡ false) × (isAsk (state .turn) ≡ true) ⌝ }
+    ensures { λ r. ⌜ r ≡ asked state (now (block .entry)) (length (now (buffer .entry))) ⌝ }
+    ensures { λ _. ⌜ now (buffer .exit) ≡ askedBuffer state (now (block .entry)) (now (buffer .entry)) ⌝ }
+{
+    let laid = lay_turn(write_command(state), state.turn, block, buffer);
+    if laid.refusal != refusal::NONE {
+        return Asked {
+            refusal: laid.refusal,
+            words: 0,
+            state,
+        };
+    }
+    Asked {
+        refusal: refusal::NONE,
+        words: laid.words,
+        state: with_turn(state, state.turn + 1),
+    }
+}
+
+// Asks for the next message. The block is given with the WRITE, and an empty one with each READBACK.
+pub fn ask(state: SureWrite, block: &[u16], buffer: &mut [u16]) -> Asked
+    ensures { λ r. ⌜ r ≡ asked state (now (block .entry)) (length (now (buffer .entry))) ⌝ }
+    ensures { λ _. ⌜ now (buffer .exit) ≡ askedBuffer state (now (block .entry)) (now (buffer .entry)) ⌝ }
+{
+    if out_of_state(state) {
+        return Asked {
+            refusal: refusal::STATE,
+            words: 0,
+            state,
+        };
+    }
+    if is_ask(state.turn) {
+        return ask_in_turn(state, block, buffer);
+    }
+    Asked {
+        refusal: refusal::TURN,
+        words: 0,
+        state,
+    }
+}
+
+// Gives the words of a turn that has some.
+fn give_in_turn(state: SureWrite, words: &[u16]) -> Given
+    requires { ⌜ (outOfState state ≡ false) × (isGive (state .turn) ≡ true) ⌝ }
+    ensures { λ r. ⌜ r ≡ given state (now (words .entry)) ⌝ }
+{
+    let middle = write_command(state);
+    let sent = command_at(middle, state.turn);
+    if words.len() != rules::message_words(sent.length) {
+        return Given {
+            refusal: refusal::COUNT,
+            state,
+        };
+    }
+    Given {
+        refusal: refusal::NONE,
+        state: with_turn(state, turn_after(middle, state.turn, words)),
+    }
+}
+
+// Gives the words that came back with the message asked for last.
+pub fn give(state: SureWrite, words: &[u16]) -> Given
+    ensures { λ r. ⌜ r ≡ given state (now (words .entry)) ⌝ }
+{
+    if out_of_state(state) {
+        return Given {
+            refusal: refusal::STATE,
+            state,
+        };
+    }
+    if is_give(state.turn) {
+        return give_in_turn(state, words);
+    }
+    Given {
+        refusal: refusal::TURN,
+        state,
+    }
+}
+
+// Done or Unsure once a turn said so, and not yet before.
+pub fn verdict(state: SureWrite) -> Verdict
+    ensures { λ r. ⌜ r ≡ verdictOf state ⌝ }
+{
+    if state.turn == DONE {
+        return Verdict::Done;
+    }
+    if state.turn == UNSURE {
+        return Verdict::Unsure;
+    }
+    Verdict::NotYet
+}

@@ -1,0 +1,38 @@
+-- `trace::main` is safe and ends after at most 2^64 - 1 buffers; the arrays keep their lengths.
+-- Assumes nothing.
+use borrow.Author.Needs.{needs}
+use mathlib.Core.Path.{_≡_}
+use lib.ListN.{length}
+use Rattle.trace.proofs.main.Statement.{statement}
+use Rattle.trace.proofs.main.Tie as tie
+
+abbrev Inv-loop : tie.InvT-loop
+Inv-loop memory₀ input₀ lines₀ state₀ turns₀ memory input lines state turns = (length memory ≡ 256) × (length input ≡ 16384) × (length lines ≡ 65536)
+
+abbrev μ-loop : tie.MeasureT-loop
+μ-loop memory₀ input₀ lines₀ state₀ turns₀ memory input lines state turns = turns
+
+pub main-spec : {M : Type 1} → statement M
+main-spec =
+    tie.close
+    (tie.spec
+    Inv-loop
+    μ-loop
+    (λ c κs. search needs)
+    (λ c κs. search needs)
+    (λ c. search needs)
+    (λ c. search needs)
+    (λ c κs. search needs)
+    (λ c. search needs)
+    (λ c. search needs)
+    (λ c. search needs)
+    (λ c. search needs)
+    (λ c κs. search needs)
+    (λ c κs. search needs)
+    (λ c. search needs)
+    (λ c. search needs)
+    (λ c. search needs)
+    (λ c κs. search needs)
+    (λ c. search needs)
+    (λ c κs. search needs)
+    (λ c. search needs))
