@@ -1,4 +1,5 @@
 pub mod Held
 pub mod Laws
+pub mod Ranges
 pub mod Sound
 pub mod Unique

@@ -1,13 +1,12 @@
 -- What every card run from power-up has: its state is in range, its last token is a good command token, and where no message
 -- is open the message is empty.
 -- Assumes nothing.
-use Prim.Native.Nat.{ℕ, _≤_}
-use native.Mathlib.Omega.{arith}
+use Prim.Native.Nat.{ℕ}
 use mathlib.Core.Bool.{Bool, true, false, cond}
 use mathlib.Core.List.{List}
 use mathlib.Core.Path.{_≡_, refl, sym, _∙_}
-use borrow.Author.Tests.{eqb-true, leb-true, ltb-true, le-ltb}
-use lib.Dec.{eqb, leb, ltb, lit≤}
+use borrow.Author.Tests.{eqb-true, le-ltb}
+use lib.Dec.{eqb, lit≤}
 use lib.ListN.{length}
 use Rattle.rules.specs.Refusals as refusal
 use Rattle.rules.specs.Rules.{reset}
@@ -15,15 +14,14 @@ use Rattle.judge.specs.Judge.{anySet}
 use Rattle.judge.proofs.Laws.{never, token-passed, passed-good}
 use Rattle.token.proofs.CommandTrip.{command-good}
 use Rattle.token.specs.Command.{command, goodCommand}
-use Rattle.token.specs.declared.response.Status.{Status}
 use Rattle.card.specs.Acting.{silent, verdict, acted, noted, ended}
 use Rattle.card.specs.Card.{answer, powered, selected, moduleRefusal, moduleSet, wordRefusal, exchanged, releaseRefusal, released}
 use Rattle.card.specs.Run.{Run, PowerUp, Select, Module, Word, Release}
-use Rattle.card.specs.Sending.{word1, word2, nextWord, taken}
+use Rattle.card.specs.Sending.{word1, word2, taken}
 use Rattle.card.specs.State.{emptied, fresh, withMessage, sized, outOfRange}
 use Rattle.card.specs.declared.Card.{Card}
-use Rattle.card.specs.declared.Message.{Message}
 use Rattle.card.proofs.Laws.{InRange, lent, accepted-token}
+use Rattle.card.proofs.Ranges.{powered-ranged, selected-ranged, exchanged-ranged, released-ranged, module-ranged}
 
 pub record Sound (c : Card) : Type 0 where
   pub ranged : InRange c
@@ -35,112 +33,80 @@ pub not-out : (c : Card) → InRange c → outOfRange c ≡ false
 unfolding outOfRange
 not-out c r = rw (r .size, le-ltb 67 _ (r .count), le-ltb 15 _ (r .module-state))
 
-powered-sound : (size : ℕ) → powered size .refusal ≡ refusal.None → Sound (powered size .card)
-unfolding powered
-powered-sound size h = go (sized size) refl h
+-- what there is beside the ranges
+record Kept (c : Card) : Type 0 where
+  last : goodCommand (c .port .last .first) (c .port .last .second) ≡ true
+  closed : c .port .message .opened ≡ false → c .port .message ≡ emptied false
+
+powered-kept : (size : ℕ) → Kept (powered size .card)
+unfolding powered fresh emptied
+powered-kept size = go (sized size)
   where
-    go : (t : Bool) → sized size ≡ t → (cond t (answer refusal.None (fresh size)) (answer refusal.Size (fresh 0))) .refusal ≡ refusal.None
-        → Sound ((cond t (answer refusal.None (fresh size)) (answer refusal.Size (fresh 0))) .card)
-    go true e h =
-        unfold fresh emptied in
+    born : (n : ℕ) → Kept (fresh n)
+    born n =
         record {
-          ranged = record { size = e; count = omega arith; module-state = omega arith };
           last = command-good (command (reset .code) 0 0) (record { code = lit≤ tt; length = lit≤ tt; sub-address = lit≤ tt });
           closed = λ e. refl;
         }
-    go false e h = absurd (omega arith)
 
--- another message, its count in range, open or empty
-with-sound : (c : Card) (m : Message) → Sound c → m .count ≤ 67 → (m .opened ≡ false → m ≡ emptied false) → Sound (withMessage c m)
-with-sound c m s h e =
-    record { ranged = record { size = s .ranged .size; count = h; module-state = s .ranged .module-state }; last = s .last; closed = e }
+    go : (t : Bool) → Kept ((cond t (answer refusal.None (fresh size)) (answer refusal.Size (fresh 0))) .card)
+    go true = born size
+    go false = born 0
 
-selected-sound : (c : Card) → Sound c → Sound (selected c .card)
+selected-kept : (c : Card) → Kept c → Kept (selected c .card)
 unfolding selected emptied
-selected-sound c s = go (outOfRange c) (c .port .message .opened)
+selected-kept c k = go (outOfRange c) (c .port .message .opened)
   where
-    go : (r o : Bool) → Sound ((cond r (answer refusal.State c) (cond o (answer refusal.Open c) (answer refusal.None (withMessage c (emptied true))))) .card)
-    go true o = s
-    go false true = s
-    go false false = with-sound c (emptied true) s (omega arith) (λ e. never e)
+    go : (s o : Bool) → Kept ((cond s (answer refusal.State c) (cond o (answer refusal.Open c) (answer refusal.None (withMessage c (emptied true))))) .card)
+    go true o = k
+    go false true = k
+    go false false = record { last = k .last; closed = λ e. never e }
 
-taken-count : (c : Card) (word sent : ℕ) → c .port .message .count ≤ 67 → taken c word sent .count ≤ 67
-unfolding taken
-taken-count c word sent h = go (ltb (c .port .message .count) 67) refl
-  where
-    go : (t : Bool) → ltb (c .port .message .count) 67 ≡ t → taken c word sent .count ≤ 67
-    go true e = rw e (omega (arith, ltb-true (c .port .message .count) 67 e))
-    go false e = rw e h
-
-exchanged-sound : (c : Card) (memory : List ℕ) (word : ℕ) → Sound c → Sound (exchanged c memory word .card)
+exchanged-kept : (c : Card) (memory : List ℕ) (word : ℕ) → Kept c → Kept (exchanged c memory word .card)
 unfolding exchanged
-exchanged-sound c memory word s = go (eqb (wordRefusal c (length memory)) refusal.None) refl
+exchanged-kept c memory word k = go (eqb (wordRefusal c (length memory)) refusal.None) refl
   where
-    go : (t : Bool) → eqb (wordRefusal c (length memory)) refusal.None ≡ t → Sound (exchanged c memory word .card)
-    go true e =
-        rw e
-        (with-sound c (taken c word (nextWord c memory)) s (taken-count c word (nextWord c memory) (s .ranged .count))
-        (λ o. never (sym (lent c (length memory) (eqb-true _ _ e) .opened) ∙ unfold taken in o)))
-    go false e = rw e s
+    go : (t : Bool) → eqb (wordRefusal c (length memory)) refusal.None ≡ t → Kept (exchanged c memory word .card)
+    go true e = rw e (record { last = k .last; closed = λ o. never (sym (lent c (length memory) (eqb-true _ _ e) .opened) ∙ unfold taken in o) })
+    go false e = rw e k
 
-noted-sound : (c : Card) (bits : Status) → Sound c → Sound (noted c bits)
-unfolding noted emptied
-noted-sound c bits s =
-    record { ranged = record { size = s .ranged .size; count = omega arith; module-state = s .ranged .module-state }; last = s .last; closed = λ e. refl }
-
-acted-sound : (c : Card) (left : ℕ) → anySet (verdict c left) ≡ false → Sound c → Sound (acted c)
-unfolding acted emptied
-acted-sound c left h s =
-    record {
-      ranged = record { size = s .ranged .size; count = omega arith; module-state = s .ranged .module-state };
-      last = passed-good (word1 c) (word2 c) (token-passed (c .size) (c .bases) (word1 c) (word2 c) (accepted-token c left h) .one);
-      closed = λ e. refl;
-    }
-
-ended-sound : (c : Card) (left : ℕ) → Sound c → Sound (ended c left)
-unfolding ended
-ended-sound c left s = go (silent c left) (anySet (verdict c left)) refl
+released-kept : (c : Card) (size left : ℕ) → Kept c → Kept (released c size left .card)
+unfolding released ended noted acted emptied
+released-kept c size left k = go (eqb (releaseRefusal c size left) refusal.None) (silent c left) (anySet (verdict c left)) refl
   where
-    go : (q v : Bool) → anySet (verdict c left) ≡ v → Sound (cond q (withMessage c (emptied false)) (cond v (noted c (verdict c left)) (acted c)))
-    go true v e = unfold emptied in with-sound c (emptied false) s (omega arith) (λ e. refl)
-    go false true e = noted-sound c (verdict c left) s
-    go false false e = acted-sound c left e s
+    go : (t q v : Bool) → anySet (verdict c left) ≡ v
+        → Kept ((cond t (answer refusal.None (cond q (withMessage c (emptied false)) (cond v (noted c (verdict c left)) (acted c)))) (answer (releaseRefusal c size left) c)) .card)
+    go false q v e = k
+    go true true v e = record { last = k .last; closed = λ o. refl }
+    go true false true e = record { last = k .last; closed = λ o. refl }
+    go true false false e =
+        record {
+          last = passed-good (word1 c) (word2 c) (token-passed (c .size) (c .bases) (word1 c) (word2 c) (accepted-token c left e) .one);
+          closed = λ o. refl;
+        }
 
-released-sound : (c : Card) (size left : ℕ) → Sound c → Sound (released c size left .card)
-unfolding released
-released-sound c size left s = go (eqb (releaseRefusal c size left) refusal.None)
-  where
-    go : (t : Bool) → Sound ((cond t (answer refusal.None (ended c left)) (answer (releaseRefusal c size left) c)) .card)
-    go true = ended-sound c left s
-    go false = s
-
-module-small : (c : Card) (state : ℕ) → moduleRefusal c state ≡ refusal.None → state ≤ 15
-unfolding moduleRefusal
-module-small c state h = leb-true state 15 (go (outOfRange c) (c .port .message .opened) (leb state 15) h)
-  where
-    go : (r o l : Bool) → cond {A = ℕ} r refusal.State (cond o refusal.Open (cond l refusal.None refusal.Argument)) ≡ refusal.None → l ≡ true
-    go true o l h = absurd (omega arith)
-    go false true l h = absurd (omega arith)
-    go false false true h = refl
-    go false false false h = absurd (omega arith)
-
-module-sound : (c : Card) (stf : Bool) (state : ℕ) → Sound c → Sound (moduleSet c stf state .card)
+module-kept : (c : Card) (stf : Bool) (state : ℕ) → Kept c → Kept (moduleSet c stf state .card)
 unfolding moduleSet
-module-sound c stf state s = go (eqb (moduleRefusal c state) refusal.None) refl
+module-kept c stf state k = go (eqb (moduleRefusal c state) refusal.None)
   where
-    go : (t : Bool) → eqb (moduleRefusal c state) refusal.None ≡ t → Sound (moduleSet c stf state .card)
-    go true e =
-        rw e
-        (record {
-          ranged = record { size = s .ranged .size; count = s .ranged .count; module-state = module-small c state (eqb-true _ _ e) };
-          last = s .last;
-          closed = s .closed;
-        })
-    go false e = rw e s
+    go : (t : Bool)
+        → Kept ((cond t (answer refusal.None (record { size = c .size; time = c .time; bases = c .bases; stf = stf; «module_state» = state; port = c .port })) (answer (moduleRefusal c state) c)) .card)
+    go true = record { last = k .last; closed = k .closed }
+    go false = k
+
+run-ranged : {c : Card} → Run c → InRange c
+run-ranged (PowerUp size h) = powered-ranged size h
+run-ranged (Select {c = c} r) = selected-ranged c (run-ranged r)
+run-ranged (Module {c = c} r stf state) = module-ranged c stf state (run-ranged r)
+run-ranged (Word {c = c} r memory word) = exchanged-ranged c memory word (run-ranged r)
+run-ranged (Release {c = c} r size left) = released-ranged c size left (run-ranged r)
+
+run-kept : {c : Card} → Run c → Kept c
+run-kept (PowerUp size h) = powered-kept size
+run-kept (Select {c = c} r) = selected-kept c (run-kept r)
+run-kept (Module {c = c} r stf state) = module-kept c stf state (run-kept r)
+run-kept (Word {c = c} r memory word) = exchanged-kept c memory word (run-kept r)
+run-kept (Release {c = c} r size left) = released-kept c size left (run-kept r)
 
 pub run-sound : {c : Card} → Run c → Sound c
-run-sound (PowerUp size h) = powered-sound size h
-run-sound (Select {c = c} r) = selected-sound c (run-sound r)
-run-sound (Module {c = c} r stf state) = module-sound c stf state (run-sound r)
-run-sound (Word {c = c} r memory word) = exchanged-sound c memory word (run-sound r)
-run-sound (Release {c = c} r size left) = released-sound c size left (run-sound r)
+run-sound r = record { ranged = run-ranged r; last = run-kept r .last; closed = run-kept r .closed }

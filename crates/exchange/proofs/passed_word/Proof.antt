@@ -25,10 +25,10 @@ pub passed-word-spec : {M : Type 1} → statement M
 passed-word-spec =
     tie.close
     (tie.spec
-    (λ c κs. search needs)
+    (λ c κs. tt)
     (λ c. search needs)
     read-word-requires
     returns
-    (λ c κs. search needs)
+    (λ c κs. tt)
     returns-2
     returns-3)

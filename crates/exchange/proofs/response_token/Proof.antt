@@ -29,4 +29,4 @@ returns-2 : tie.Need-returns-2
 returns-2 c = absurd (not-refused (responseOf (c .before .before .before .before .before .args .card)) (c .before .before .before .before .before .pre) (ap responseBuiltGives (sym (c .enum-told .given .1)) ∙ c .before .before .new .ensures))
 
 pub response-token-spec : {M : Type 1} → statement M
-response-token-spec = tie.close (tie.spec (λ c κs. search needs) (λ c. search needs) (λ c. search needs) returns returns-2)
+response-token-spec = tie.close (tie.spec (λ c κs. tt) (λ c. search needs) (λ c. search needs) returns returns-2)

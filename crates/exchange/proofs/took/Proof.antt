@@ -15,4 +15,4 @@ unfolding taken
 returns-2 c = search (tests, c .before .check-after .ensures)
 
 pub took-spec : {M : Type 1} → statement M
-took-spec = tie.close (tie.spec (λ c κs. search needs) (λ c. search needs) (λ c. search needs) (λ c. search needs) returns returns-2)
+took-spec = tie.close (tie.spec (λ c κs. tt) (λ c. search needs) (λ c. search needs) (λ c. search needs) returns returns-2)

@@ -20,4 +20,4 @@ unfolding inside
 returns-2 c = search (tests, ← c .before .before .word-place .ensures)
 
 pub block-status-spec : {M : Type 1} → statement M
-block-status-spec = tie.close (tie.spec (λ c κs. search needs) (λ c. search needs) add-end returns returns-2)
+block-status-spec = tie.close (tie.spec (λ c κs. tt) (λ c. search needs) add-end returns returns-2)

@@ -1,7 +1,8 @@
 -- `judge::judgement` meets its contract: the tests say which case holds.
 -- Assumes nothing.
-use Rattle.judge.specs.Judge.{anySet, firstFailing, tokenStatus, judgement}
-use mathlib.Core.Path.{_≡_}
+use Rattle.judge.specs.Judge.{anySet, firstFailing, tokenStatus, endStatus, judgement}
+use Rattle.token.specs.declared.command.Command.{Command}
+use mathlib.Core.Path.{_≡_, sym, ap, _∙_}
 use mathlib.Core.Bool.{true, false}
 use Rattle.rules.proofs.Tests.{tests}
 use native.Mathlib.Omega.{arith}
@@ -22,8 +23,9 @@ returns-2 c =
     let a = c .before .before .before .before .before .before .before .args in
     let ws = a .words .now in
     let long : ltb (length ws) 2 ≡ false = le-ltb (length ws) 2 (omega arith) in
-    let fails : anySet (tokenStatus (a .size) (a .bases) (getD ws 0 0) (getD ws 1 0)) ≡ true = cc in
-    rw (long, fails) (cc)
+    let fails : anySet (tokenStatus (a .size) (a .bases) (getD ws 0 0) (getD ws 1 0)) ≡ true
+    = sym (c .before .any-set .ensures ∙ ap anySet (c .before .before .token-status .ensures)) ∙ c .if2 .taken in
+    rw (long, fails) (c .before .before .token-status .ensures)
 
 returns-3 : tie.Need-returns-3
 unfolding judgement firstFailing
@@ -31,8 +33,9 @@ returns-3 c =
     let a = c .before .before .before .before .before .before .before .before .before .args in
     let ws = a .words .now in
     let long : ltb (length ws) 2 ≡ false = le-ltb (length ws) 2 (omega arith) in
-    let passes : anySet (tokenStatus (a .size) (a .bases) (getD ws 0 0) (getD ws 1 0)) ≡ false = cc in
-    rw (long, passes) (cc)
+    let passes : anySet (tokenStatus (a .size) (a .bases) (getD ws 0 0) (getD ws 1 0)) ≡ false
+    = sym (c .before .before .before .any-set .ensures ∙ ap anySet (c .before .before .before .before .token-status .ensures)) ∙ c .before .before .if2 .left in
+    rw (long, passes) (c .end-status .ensures ∙ ap (λ (f : Command). endStatus f ws (a .left)) (c .before .fields .ensures))
 
 pub judgement-spec : {M : Type 1} → statement M
 judgement-spec =
@@ -41,9 +44,9 @@ judgement-spec =
     returns
     (λ c. search needs)
     (λ c. search needs)
-    (λ c κs. search needs)
-    (λ c κs. search needs)
+    (λ c κs. tt)
+    (λ c κs. tt)
     returns-2
-    (λ c κs. search needs)
+    (λ c κs. tt)
     (λ c κs. search needs)
     returns-3)

@@ -14,4 +14,4 @@ returns-2 : tie.Need-returns-2
 returns-2 c = c .row-status .ensures ∙ ap (step2 _) (sym (c .before .before .rule .given .1) ∙ c .before .before .before .before .rule-of .ensures)
 
 pub step-2-spec : {M : Type 1} → statement M
-step-2-spec = tie.close (tie.spec (λ c κs. search needs) (λ c. search needs) (λ c. search needs) returns (λ c κs. search needs) returns-2)
+step-2-spec = tie.close (tie.spec (λ c κs. tt) (λ c. search needs) (λ c. search needs) returns (λ c κs. tt) returns-2)

@@ -17,15 +17,15 @@ returns : tie.Need-returns
 unfolding ended endedMemory writes
 returns c =
     let a = c .before .before .before .before .before .args in
-    let quiet : silent (a .card) (a .left) ≡ true = cc in
+    let quiet : silent (a .card) (a .left) ≡ true = sym (c .before .before .before .is-silent .ensures) ∙ c .before .before .if1 .taken in
     rw quiet (cc, refl)
 
 returns-2 : tie.Need-returns-2
 unfolding ended endedMemory writes
 returns-2 c =
     let a = c .before .before .before .before .before .before .before .args in
-    let loud : silent (a .card) (a .left) ≡ false = cc in
-    let fails : anySet (verdict (a .card) (a .left)) ≡ true = cc in
+    let loud : silent (a .card) (a .left) ≡ false = sym (c .before .before .before .before .before .is-silent .ensures) ∙ c .before .before .before .before .if1 .left in
+    let fails : anySet (verdict (a .card) (a .left)) ≡ true = sym (c .before .before .any-set .ensures ∙ ap anySet (c .before .before .before .verdict-of .ensures)) ∙ c .before .if2 .taken in
     rw (loud, fails) (cc, refl)
 
 store-requires : tie.Need-store-requires

@@ -1,7 +1,6 @@
 -- `release::note` meets its contract: the code is the definition.
 -- Assumes nothing.
 use Rattle.card.specs.Acting.{noted}
-use borrow.Author.Needs.{needs}
 use Rattle.release.proofs.note.Statement.{statement}
 use Rattle.release.proofs.note.Tie as tie
 
@@ -10,4 +9,4 @@ unfolding noted
 returns c = simp (c .empty-message .ensures)
 
 pub note-spec : {M : Type 1} → statement M
-note-spec = tie.close (tie.spec (λ c κs. search needs) returns)
+note-spec = tie.close (tie.spec (λ c κs. tt) returns)

@@ -21,29 +21,29 @@ add-sub n = omega arith
 part-write-end : tie.Need-part-write-end
 part-write-end c =
     let s = c .before .before .before .before .before .before .before .before in
-    let same : c .before .before .before .before .before .fields .result ≡ fields (s .args .card) = cc (heard-fields (s .args .card) (c .before .before .before .before .before .before .token-of .ensures)) in
+    let same = c .before .before .before .before .before .fields .ensures ∙ heard-fields (s .args .card) (c .before .before .before .before .before .before .token-of .ensures) in
     omega (arith, room s, ap (λ (f : Command). f .length) same, length-small (s .args .card))
 
 write-requires : tie.Need-write-requires
 write-requires c κs =
     let s = c .before .before .before .before .before .before .before .before .before in
-    let same : c .before .before .before .before .before .before .fields .result ≡ fields (s .args .card) = cc (heard-fields (s .args .card) (c .before .before .before .before .before .before .before .token-of .ensures)) in
+    let same = c .before .before .before .before .before .before .fields .ensures ∙ heard-fields (s .args .card) (c .before .before .before .before .before .before .before .token-of .ensures) in
     rw (c .before .before .before .before .before .word-place .ensures, same, add-sub (fields (s .args .card) .length)) (simp length-take (omega (arith, s .pre)))
 
 returns : tie.Need-returns
 unfolding stored
 returns c =
     let s = c .before .before .before .before .before .before .before .before .before .before .before .before in
-    let same : c .before .before .before .before .before .before .before .before .before .fields .result ≡ fields (s .args .card) = cc (heard-fields (s .args .card) (c .before .before .before .before .before .before .before .before .before .before .token-of .ensures)) in
+    let same = c .before .before .before .before .before .before .before .before .before .fields .ensures ∙ heard-fields (s .args .card) (c .before .before .before .before .before .before .before .before .before .before .token-of .ensures) in
     c .before .before .write .ensures ∙ rw (c .before .before .before .before .before .before .before .before .word-place .ensures, same, add-sub (fields (s .args .card) .length))
 
 pub store-spec : {M : Type 1} → statement M
 store-spec =
     tie.close
     (tie.spec
-    (λ c κs. search needs)
-    (λ c κs. search needs)
-    (λ c κs. search needs)
+    (λ c κs. tt)
+    (λ c κs. tt)
+    (λ c κs. tt)
     (λ c. search needs)
     (λ c. search needs)
     (λ c. search needs)

@@ -2,7 +2,6 @@
 -- Assumes nothing.
 use Rattle.card.specs.Acting.{timeAfter}
 use Rattle.rules.proofs.Tests.{tests}
-use borrow.Author.Needs.{needs}
 use Rattle.release.proofs.time_after.Statement.{statement}
 use Rattle.release.proofs.time_after.Tie as tie
 
@@ -22,4 +21,4 @@ unfolding timeAfter
 returns-3 c = search tests
 
 pub time-after-spec : {M : Type 1} → statement M
-time-after-spec = tie.close (tie.spec returns power-of-two-requires (λ c κs. search needs) returns-2 returns-3)
+time-after-spec = tie.close (tie.spec returns power-of-two-requires (λ c κs. tt) returns-2 returns-3)

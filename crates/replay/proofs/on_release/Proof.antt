@@ -10,4 +10,4 @@ unfolding onRelease
 returns c = (simp (c .said .ensures, c .before .before .before .before .before .before .release .ensures .0), c .before .before .before .before .before .before .release .ensures .1)
 
 pub on-release-spec : {M : Type 1} → statement M
-on-release-spec = tie.close (tie.spec (λ c κs. search needs) (λ c κs. search needs) (λ c. search needs) returns)
+on-release-spec = tie.close (tie.spec (λ c κs. tt) (λ c κs. tt) (λ c. search needs) returns)

@@ -1,7 +1,6 @@
 -- `replay::on_select` meets its contract: the code is the definition.
 -- Assumes nothing.
 use Rattle.replay.specs.Replay.{onSelect}
-use borrow.Author.Needs.{needs}
 use Rattle.replay.proofs.on_select.Statement.{statement}
 use Rattle.replay.proofs.on_select.Tie as tie
 
@@ -10,4 +9,4 @@ unfolding onSelect
 returns c = simp (c .said .ensures, c .before .select .ensures)
 
 pub on-select-spec : {M : Type 1} → statement M
-on-select-spec = tie.close (tie.spec (λ c κs. search needs) (λ c κs. search needs) returns)
+on-select-spec = tie.close (tie.spec (λ c κs. tt) (λ c κs. tt) returns)

@@ -31,14 +31,14 @@ pub replay-spec : {M : Type 1} → statement M
 replay-spec =
     tie.close
     (tie.spec
-    (λ c κs. search needs)
+    (λ c κs. tt)
     returns
-    (λ c κs. search needs)
+    (λ c κs. tt)
     (λ c. search needs)
     returns-2
-    (λ c κs. search needs)
+    (λ c κs. tt)
     (λ c. search needs)
     returns-3
-    (λ c κs. search needs)
+    (λ c κs. tt)
     returns-4
     returns-5)

@@ -1,7 +1,7 @@
 -- `sure::ask` meets its contract: the tests say which case holds.
 -- Assumes nothing.
 use mathlib.Core.Bool.{true, false}
-use mathlib.Core.Path.{_≡_, refl}
+use mathlib.Core.Path.{_≡_, refl, sym, _∙_}
 use borrow.Author.Needs.{needs}
 use Rattle.controller.specs.Sure.{isAsk, outOfState, askRefusal, asked, askedBuffer}
 use Rattle.sure.proofs.ask.Statement.{statement}
@@ -11,7 +11,7 @@ returns : tie.Need-returns
 unfolding asked askedBuffer askRefusal
 returns c =
     let s = c .before .before .before .before .args .state in
-    let out : outOfState s ≡ true = cc in
+    let out : outOfState s ≡ true = sym (c .before .out-of-state .ensures) ∙ c .if1 .taken in
     simp out (refl, refl)
 
 ask-in-turn-requires : tie.Need-ask-in-turn-requires
@@ -21,8 +21,8 @@ returns-3 : tie.Need-returns-3
 unfolding asked askedBuffer askRefusal
 returns-3 c =
     let s = c .before .before .before .before .before .before .args .state in
-    let inside : outOfState s ≡ false = cc in
-    let early : isAsk (s .turn) ≡ false = cc in
+    let inside : outOfState s ≡ false = sym (c .before .before .before .out-of-state .ensures) ∙ c .before .before .if1 .left in
+    let early : isAsk (s .turn) ≡ false = sym (c .before .is-ask .ensures) ∙ c .if2 .left in
     simp (inside, early) (refl, refl)
 
 pub ask-spec : {M : Type 1} → statement M

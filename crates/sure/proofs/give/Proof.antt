@@ -1,7 +1,7 @@
 -- `sure::give` meets its contract: the tests say which case holds.
 -- Assumes nothing.
 use mathlib.Core.Bool.{true, false}
-use mathlib.Core.Path.{_≡_}
+use mathlib.Core.Path.{_≡_, sym, _∙_}
 use borrow.Author.Needs.{needs}
 use Rattle.controller.specs.Sure.{isGive, outOfState, giveRefusal, given}
 use Rattle.sure.proofs.give.Statement.{statement}
@@ -11,7 +11,7 @@ returns : tie.Need-returns
 unfolding given giveRefusal
 returns c =
     let s = c .before .before .before .args .state in
-    let out : outOfState s ≡ true = cc in
+    let out : outOfState s ≡ true = sym (c .before .out-of-state .ensures) ∙ c .if1 .taken in
     simp out
 
 give-in-turn-requires : tie.Need-give-in-turn-requires
@@ -21,8 +21,8 @@ returns-3 : tie.Need-returns-3
 unfolding given giveRefusal
 returns-3 c =
     let s = c .before .before .before .before .before .args .state in
-    let inside : outOfState s ≡ false = cc in
-    let early : isGive (s .turn) ≡ false = cc in
+    let inside : outOfState s ≡ false = sym (c .before .before .before .out-of-state .ensures) ∙ c .before .before .if1 .left in
+    let early : isGive (s .turn) ≡ false = sym (c .before .is-give .ensures) ∙ c .if2 .left in
     simp (inside, early)
 
 pub give-spec : {M : Type 1} → statement M

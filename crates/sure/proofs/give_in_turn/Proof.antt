@@ -1,6 +1,7 @@
 -- `sure::give_in_turn` meets its contract: in turn, the count says which case holds.
 -- Assumes nothing.
-use mathlib.Core.Path.{_≡_, sym, _∙_}
+use Rattle.token.specs.declared.command.Command.{Command}
+use mathlib.Core.Path.{_≡_, sym, ap, _∙_}
 use borrow.Author.Needs.{needs}
 use borrow.Author.Tests.{eq-eqb, ne-eqb}
 use lib.ListN.{length}
@@ -16,7 +17,8 @@ returns c =
     let s = c .before .before .before .before .before .args .state in
     let words = c .before .before .before .before .before .args .words .now in
     let f = commandAt (writeCommand s) (s .turn) in
-    let many : c .before .message-words .result ≡ messageWords (f .length) = cc in
+    let many : c .before .message-words .result ≡ messageWords (f .length)
+    = c .before .message-words .ensures ∙ ap (λ (g : Command). messageWords (g .length)) (c .before .before .command-at .ensures ∙ ap (λ (g : Command). commandAt g (s .turn)) (c .before .before .before .write-command .ensures)) in
     simp (c .before .before .before .before .before .pre .0, c .before .before .before .before .before .pre .1, ne-eqb (length words) (messageWords (f .length)) (λ e. c .if1 .taken (e ∙ sym many)))
 
 turn-after-requires : tie.Need-turn-after-requires
@@ -28,7 +30,8 @@ returns-2 c =
     let s = c .before .before .before .before .before .before .before .args .state in
     let words = c .before .before .before .before .before .before .before .args .words .now in
     let f = commandAt (writeCommand s) (s .turn) in
-    let many : c .before .before .before .message-words .result ≡ messageWords (f .length) = cc in
+    let many : c .before .before .before .message-words .result ≡ messageWords (f .length)
+    = c .before .before .before .message-words .ensures ∙ ap (λ (g : Command). messageWords (g .length)) (c .before .before .before .before .command-at .ensures ∙ ap (λ (g : Command). commandAt g (s .turn)) (c .before .before .before .before .before .write-command .ensures)) in
     let next : c .before .turn-after .result ≡ turnAfter (writeCommand s) (s .turn) words = rw (c .before .before .before .before .before .write-command .ensures) at (c .before .turn-after .ensures) in
     simp (c .before .before .before .before .before .before .before .pre .0, c .before .before .before .before .before .before .before .pre .1, eq-eqb (length words) (messageWords (f .length)) (c .before .before .if1 .left ∙ many), c .with-turn .ensures, next)
 

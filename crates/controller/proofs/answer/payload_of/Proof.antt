@@ -33,7 +33,7 @@ pub payload-of-spec : {M : Type 1} → statement M
 payload-of-spec =
     tie.close
     (tie.spec
-    (λ c κs. search needs)
+    (λ c κs. tt)
     (λ c. search needs)
     (λ c. search needs)
     returns

@@ -19,4 +19,4 @@ unfolding readRefusal
 read-words-requires c κs = search (tests, ← c .before .message-words .ensures)
 
 pub read-answer-spec : {M : Type 1} → statement M
-read-answer-spec = tie.close (tie.spec returns (λ c. search needs) (λ c κs. search needs) returns-2 read-words-requires (λ c. search needs))
+read-answer-spec = tie.close (tie.spec returns (λ c. search needs) (λ c κs. tt) returns-2 read-words-requires (λ c. search needs))

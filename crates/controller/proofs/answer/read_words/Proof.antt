@@ -67,13 +67,13 @@ read-words-spec =
     (tie.spec
     shared-slice-read-first
     shared-slice-read-second
-    (λ c κs. search needs)
+    (λ c κs. tt)
     (λ c. search needs)
     (λ c. search needs)
     returns
     sub-agrees
     part-agrees-start
     (λ c. search needs)
-    (λ c κs. search needs)
+    (λ c κs. tt)
     returns-2
     returns-3)

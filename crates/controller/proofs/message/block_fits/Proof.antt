@@ -14,4 +14,4 @@ unfolding blockFits
 returns-2 c = simp (← c .before .before .is-reading .ensures, c .before .if1 .left)
 
 pub block-fits-spec : {M : Type 1} → statement M
-block-fits-spec = tie.close (tie.spec (λ c κs. search needs) returns (λ c. search needs) returns-2)
+block-fits-spec = tie.close (tie.spec (λ c κs. tt) returns (λ c. search needs) returns-2)

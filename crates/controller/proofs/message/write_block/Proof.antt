@@ -32,7 +32,7 @@ write-block-spec =
     tie.close
     (tie.spec
     write-words-requires
-    (λ c κs. search needs)
+    (λ c κs. tt)
     (λ c. search needs)
     slice-write-part
     (λ c. search needs)

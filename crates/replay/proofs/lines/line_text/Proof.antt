@@ -26,15 +26,15 @@ line-text-spec =
     tie.close
     (tie.spec
     (λ c. search needs)
-    (λ c κs. search needs)
+    (λ c κs. tt)
     (λ c. search needs)
-    (λ c κs. search needs)
+    (λ c κs. tt)
     (λ c. search needs)
-    (λ c κs. search needs)
+    (λ c κs. tt)
     (λ c. search needs)
-    (λ c κs. search needs)
+    (λ c κs. tt)
     (λ c. search needs)
-    (λ c κs. search needs)
+    (λ c κs. tt)
     returns
     returns-2
     returns-3

@@ -54,7 +54,7 @@ put-line-spec =
     returns
     (λ c. search needs)
     returns-2
-    (λ c κs. search needs)
+    (λ c κs. tt)
     put-requires
     add-result
     (λ c. search needs)

@@ -1,7 +1,6 @@
 -- `replay::lines::refused_text` meets its contract: the code is the definition.
 -- Assumes nothing.
 use Rattle.replay.specs.Lines.{lineText, textOf}
-use borrow.Author.Needs.{needs}
 use Rattle.replay.proofs.lines.refused_text.Statement.{statement}
 use Rattle.replay.proofs.lines.refused_text.Tie as tie
 
@@ -10,4 +9,4 @@ unfolding lineText textOf
 returns c = simp (c .glyph .ensures)
 
 pub refused-text-spec : {M : Type 1} → statement M
-refused-text-spec = tie.close (tie.spec (λ c κs. search needs) returns)
+refused-text-spec = tie.close (tie.spec (λ c κs. tt) returns)

@@ -4,7 +4,6 @@ use Prim.Native.Nat.{_<_}
 use native.Mathlib.Omega.{arith}
 use Rattle.crc.proofs.Words.{crc4-lt}
 use Rattle.token.specs.Marks.{withCheck}
-use borrow.Author.Needs.{needs}
 use Rattle.token.proofs.marks.with_check.Statement.{statement}
 use Rattle.token.proofs.marks.with_check.Tie as tie
 
@@ -18,4 +17,4 @@ unfolding withCheck
 returns c = simp (c .token-check .ensures)
 
 pub with-check-spec : {M : Type 1} → statement M
-with-check-spec = tie.close (tie.spec (λ c κs. search needs) add-result returns)
+with-check-spec = tie.close (tie.spec (λ c κs. tt) add-result returns)

@@ -1,0 +1,175 @@
+-- How a damaged command ends: no bit was seen, or it is refused whole, or it is taken as it was built. And no call is refused.
+-- Assumes nothing.
+use Prim.Native.Nat.{ℕ, zero, suc, _+_, _*_, _/_, _%_, _≤_}
+use native.Mathlib.Omega.{arith}
+use mathlib.Core.Path.{_≡_, refl, sym, ap, _∙_}
+use mathlib.Core.Bool.{Bool, true, false, cond}
+use mathlib.Core.List.{List, [], _∷_, _++_}
+use borrow.Author.Tests.{eqb-true}
+use lib.Dec.{eqb}
+use lib.ListN.{length, getD, take, replicate, length-take}
+use lib.Seq.{take-all}
+use Rattle.crc.specs.Bits.{stream}
+use Rattle.link.specs.Lines.{wholeWords, leftOver}
+use Rattle.link.specs.Damage.{Noise, Damage, Unseen, Cut, Noisy, noisy}
+use Rattle.link.proofs.Laws.{length-stream, length-words, length-noisy}
+use Rattle.rules.specs.Rules.{messageWords}
+use Rattle.token.specs.Command.{commandFirst, commandSecond}
+use Rattle.token.specs.declared.command.Command.{Command}
+use Rattle.token.proofs.Good.{both}
+use Rattle.judge.specs.Judge.{anySet, tokenStatus, isChecked}
+use Rattle.card.specs.Acting.{noted}
+use Rattle.card.specs.Run.{Run, Select, Word, Release}
+use Rattle.card.specs.declared.Answer.{Answer}
+use Rattle.card.specs.declared.Card.{Card}
+use Rattle.controller.specs.Messages.{payload, message}
+use Rattle.delivery.specs.Play.{after, listened, cardAfter, memoryOf, refusalsOf, Crossed, heard, crossed}
+use Rattle.delivery.proofs.Held.{Idle}
+use Rattle.delivery.proofs.Closed.{judgedBy, unheard, cardActed, memoryActed, cardEnded, memoryEnded, Closed, closed}
+use Rattle.delivery.proofs.Accept.{Whole, whole, Sendable, AsBuilt, built-noisy, built-cut}
+
+-- ---- a line that a card heard
+
+-- a card passes a command's token, by steps 1 to 3
+abbrev pub Passes : Command → Card → Type 0
+Passes t c = anySet (tokenStatus (c .size) (c .bases) (commandFirst t) (commandSecond t)) ≡ false
+
+-- the three ends: the card and memory before, the line that the card saw, the card and memory after
+pub data Ended (t : Command) (rest : List ℕ) (c : Card) (memory : List ℕ) (line : List Bool) (c′ : Card) (memory′ : List ℕ) : Type 0 where
+  Ignored : line ≡ [] → c′ ≡ c → memory′ ≡ memory → Ended t rest c memory line c′ memory′
+  Refused : anySet (judgedBy c (wholeWords line) (leftOver line)) ≡ true → c′ ≡ noted c (judgedBy c (wholeWords line) (leftOver line)) → memory′ ≡ memory
+      → Ended t rest c memory line c′ memory′
+  Taken : (words : List ℕ) → Passes t c → (isChecked (t .code) ≡ true → words ≡ rest)
+      → c′ ≡ cardActed c (commandFirst t ∷ commandSecond t ∷ words) → memory′ ≡ memoryActed c memory (commandFirst t ∷ commandSecond t ∷ words)
+      → Ended t rest c memory line c′ memory′
+
+no-bits : (line : List Bool) → length line / 16 ≡ 0 → length line % 16 ≡ 0 → line ≡ []
+no-bits [] h g = refl
+no-bits (b ∷ line) h g = absurd (omega arith)
+
+-- every number of a list of refusals is 0
+unfoldable pub Quiet : List ℕ → Type 0
+Quiet rs = (i : ℕ) → getD rs i 0 ≡ 0
+
+pub quiet-append : (rs ss : List ℕ) → Quiet rs → Quiet ss → Quiet (rs ++ ss)
+unfolding Quiet
+quiet-append [] ss h g i = g i
+quiet-append (r ∷ rs) ss h g zero = h 0
+quiet-append (r ∷ rs) ss h g (suc i) = quiet-append rs ss (λ j. h (suc j)) g i
+
+pub quiet-zeros : (n : ℕ) → Quiet (replicate n 0)
+unfolding Quiet
+quiet-zeros zero i = refl
+quiet-zeros (suc n) zero = refl
+quiet-zeros (suc n) (suc i) = quiet-zeros n i
+
+module _ (c : Card) (memory : List ℕ) (idle : Idle c memory) (line : List Bool) (short : length line ≤ 67 * 16) where
+  abbrev ws : List ℕ
+  ws = wholeWords line
+
+  few : length ws ≤ 67
+  unfolding wholeWords
+  few = omega (arith, length-words (length line / 16) line)
+
+  left-small : leftOver line ≤ 15
+  unfolding leftOver
+  left-small = omega arith
+
+  is-closed : Closed c memory ws (leftOver line)
+  is-closed = closed c memory idle ws (leftOver line) left-small
+
+  all-kept : take 67 ws ≡ ws
+  all-kept = take-all 67 ws few
+
+  card-held : cardAfter c memory line ≡ cardEnded c ws (leftOver line)
+  unfolding cardAfter listened
+  card-held = ap (λ (a : Answer). a .card) (is-closed .card-is) ∙ ap (λ (l : List ℕ). cardEnded c l (leftOver line)) all-kept
+
+  memory-held : memoryOf c memory line ≡ memoryEnded c memory ws (leftOver line)
+  unfolding memoryOf listened
+  memory-held = is-closed .memory-is ∙ ap (λ (l : List ℕ). memoryEnded c memory l (leftOver line)) all-kept
+
+  quiet : Quiet (refusalsOf c memory line)
+  unfolding refusalsOf listened
+  quiet =
+      rw (is-closed .select-quiet, is-closed .words-quiet, is-closed .card-is)
+      (quiet-append (0 ∷ []) _ (quiet-zeros 1) (quiet-append (replicate (length ws) 0) _ (quiet-zeros (length ws)) (quiet-zeros 1)))
+
+  ended : (t : Command) (rest : List ℕ) → (Whole (c .size) (c .bases) ws (leftOver line) → AsBuilt t rest (c .size) (c .bases) line)
+      → Ended t rest c memory line (cardAfter c memory line) (memoryOf c memory line)
+  unfolding cardEnded memoryEnded unheard leftOver wholeWords
+  ended t rest built = rw (card-held, memory-held) (silent (unheard ws (leftOver line)) refl)
+    where
+      acts : (b : Bool) → anySet (judgedBy c ws (leftOver line)) ≡ b
+          → Ended t rest c memory line (cond b (noted c (judgedBy c ws (leftOver line))) (cardActed c ws)) (cond b memory (memoryActed c memory ws))
+      acts true e = Refused e refl refl
+      acts false e =
+          let b : AsBuilt t rest (c .size) (c .bases) line = built (whole (c .size) (c .bases) ws (leftOver line) e) in
+          Taken (b .payload) (b .passes) (b .same) (ap (cardActed c) (b .are)) (ap (memoryActed c memory) (b .are))
+
+      silent : (b : Bool) → unheard ws (leftOver line) ≡ b
+          → Ended t rest c memory line (cond b c (cond (anySet (judgedBy c ws (leftOver line))) (noted c (judgedBy c ws (leftOver line))) (cardActed c ws)))
+          (cond b memory (cond (anySet (judgedBy c ws (leftOver line))) memory (memoryActed c memory ws)))
+      silent true e =
+          let (count, left) = both (eqb (length ws) 0) _ e in
+          Ignored (no-bits line (sym (length-words (length line / 16) line) ∙ eqb-true _ _ count) (eqb-true _ _ left)) refl refl
+      silent false e = acts (anySet (judgedBy c ws (leftOver line))) refl
+
+-- ---- any built command under any damage
+
+-- a command sent
+unfoldable pub sent : Command → List ℕ → Damage → Card → List ℕ → Crossed
+sent t block d c memory = crossed d c memory (stream 16 (message t block))
+
+-- what the card sees of a line
+unfoldable pub seen : Damage → List Bool → List Bool
+seen (Unseen fill) line = []
+seen (Cut k fill) line = take k line
+seen (Noisy i j) line = noisy i line
+
+module _ (t : Command) (block : List ℕ) (s : Sendable t (payload t block)) (c : Card) (memory : List ℕ) (idle : Idle c memory) where
+  abbrev built : List Bool
+  built = stream 16 (message t block)
+
+  built-long : length built ≤ 67 * 16
+  unfolding message messageWords
+  built-long = go (eqb (t .length) 0) (s .count)
+    where
+      go : (b : Bool) → suc (suc (length (payload t block))) ≡ cond b 2 (t .length + 3) → length built ≤ 67 * 16
+      go true h = omega (arith, length-stream (message t block))
+      go false h = omega (arith, length-stream (message t block), s .fits .length)
+
+  cut-short : (k : ℕ) → length (take k built) ≤ 67 * 16
+  cut-short k = omega (arith, length-take k built, built-long)
+
+  noisy-short : (o : Noise) → length (noisy o built) ≤ 67 * 16
+  noisy-short o = omega (arith, length-noisy o built, built-long)
+
+  pub sent-ended : (d : Damage) → Ended t (payload t block) c memory (seen d built) (sent t block d c memory .card) (sent t block d c memory .memory)
+  unfolding sent crossed heard seen message
+  sent-ended (Unseen fill) = Ignored refl refl refl
+  sent-ended (Cut k fill) = ended c memory idle (take k built) (cut-short k) t (payload t block) (built-cut t (payload t block) s (c .size) (c .bases) k)
+  sent-ended (Noisy i j) = ended c memory idle (noisy i built) (noisy-short i) t (payload t block) (built-noisy t (payload t block) s (c .size) (c .bases) i)
+
+  pub sent-quiet : (d : Damage) → Quiet (sent t block d c memory .refused)
+  unfolding sent crossed heard
+  sent-quiet (Unseen fill) = quiet-zeros 0
+  sent-quiet (Cut k fill) = quiet c memory idle (take k built) (cut-short k)
+  sent-quiet (Noisy i j) = quiet c memory idle (noisy i built) (noisy-short i)
+
+-- ---- a card goes on running through any message
+
+run-after : {c : Card} → Run c → (memory ws : List ℕ) → Run (after c memory ws)
+unfolding after
+run-after r memory [] = r
+run-after r memory (w ∷ ws) = run-after (Word r memory w) memory ws
+
+run-heard : {c : Card} → Run c → (memory : List ℕ) (line : List Bool) → Run (cardAfter c memory line)
+unfolding cardAfter listened
+run-heard r memory line = Release (run-after (Select r) memory (wholeWords line)) (length memory) (leftOver line)
+
+pub run-sent : {c : Card} → Run c → (t : Command) (block : List ℕ) (d : Damage) (memory : List ℕ) → Run (sent t block d c memory .card)
+unfolding sent crossed heard
+run-sent r t block (Unseen fill) memory = r
+run-sent r t block (Cut k fill) memory = run-heard r memory _
+run-sent r t block (Noisy i j) memory = run-heard r memory _

@@ -1,0 +1,89 @@
+-- How the card judges tokens: what a passed one tells, and that READBACK's passes always, and WRITE's where its block is inside.
+-- Assumes nothing.
+use Prim.Native.Nat.{ℕ, _+_, _%_, _≤_, _<_}
+use native.Mathlib.Nat.{div-one}
+use native.Mathlib.Omega.{arith}
+use mathlib.Core.Path.{_≡_, refl, sym, _∙_}
+use mathlib.Core.Bool.{Bool, true, false, not, _&&_}
+use borrow.Author.Tests.{le-leb}
+use lib.Dec.{lit≤}
+use Rattle.crc.specs.Crc.{crc4}
+use Rattle.crc.proofs.Words.{crc4-lt}
+use Rattle.rules.specs.Rules.{ruleOf, table, rowIn, write}
+use Rattle.token.specs.Command.{command, commandFirst, commandUpper, commandSecond, commandMarks, goodCommand}
+use Rattle.token.specs.Marks.{withCheck, goodMarks}
+use Rattle.token.specs.Response.{status, clean, goodResponse}
+use Rattle.token.specs.declared.command.Command.{Command}
+use Rattle.token.proofs.CommandTrip.{CommandFits, command-good, command-fields}
+use Rattle.token.proofs.Good.{good-command, good-response}
+use Rattle.judge.specs.Judge.{anySet, firstFailing, step1, lengthFits, subFits, subStatus, step2, wordPlace, inside, step3, tokenStatus}
+use Rattle.judge.specs.declared.Bases.{Bases}
+use Rattle.judge.proofs.Laws.{never, token-passed, passed-good, write-inside as judged-inside}
+use Rattle.controller.specs.Sure.{readbackCommand}
+
+-- ---- checks
+
+pub command-check : (first second : ℕ) → goodCommand first second ≡ true → crc4 first second ≡ second % 16
+command-check first second h = good-command first second h .check ∙ rw (div-one second)
+
+pub response-check : (first second : ℕ) → goodResponse first second ≡ true → crc4 first second ≡ second % 16
+response-check first second h = good-response first second h .check ∙ rw (div-one second)
+
+-- a token that passes is good
+pub passed-check : (size : ℕ) (b : Bases) (first second : ℕ) → anySet (tokenStatus size b first second) ≡ false → crc4 first second ≡ second % 16
+passed-check size b first second h = command-check first second (passed-good first second (token-passed size b first second h .one))
+
+-- ---- built tokens
+
+good-passes : (first second : ℕ) → goodCommand first second ≡ true → step1 (commandMarks first second) ≡ clean
+unfolding goodCommand goodMarks step1
+good-passes first second h = go (commandMarks first second .prefix) (commandMarks first second .spare) (commandMarks first second .check) h
+  where
+    go : (p s c : Bool) → (p && s && c) ≡ true → status (not c) false (not (p && s)) ≡ clean
+    go true true true h = refl
+    go true true false h = never (sym h)
+    go true false c h = never (sym h)
+    go false s c h = never (sym h)
+
+pub readback-fits : CommandFits readbackCommand
+readback-fits = record { code = lit≤ tt; length = lit≤ tt; sub-address = lit≤ tt }
+
+pub readback-passes : (size : ℕ) (b : Bases) → anySet (tokenStatus size b (commandFirst readbackCommand) (commandSecond readbackCommand)) ≡ false
+unfolding tokenStatus firstFailing anySet step2 lengthFits subStatus subFits step3 ruleOf table rowIn
+readback-passes size b =
+    rw (command-fields readbackCommand readback-fits, good-passes _ _ (command-good readbackCommand readback-fits))
+
+module _ (t : Command) (fits : CommandFits t) where
+  pub first-below : commandFirst t < 65536
+  unfolding commandFirst
+  first-below = omega (arith, fits)
+
+  pub second-below : commandSecond t < 65536
+  unfolding commandSecond withCheck commandUpper
+  second-below = omega (arith, fits, crc4-lt (commandFirst t) (commandUpper t))
+
+  pub built-check : crc4 (commandFirst t) (commandSecond t) ≡ commandSecond t % 16
+  built-check = command-check _ _ (command-good t fits)
+
+-- the WRITE of n words at a sub-address
+abbrev pub writeOf : ℕ → ℕ → Command
+writeOf n sub = command (write .code) n sub
+
+module _ (n sub : ℕ) (n-fits : n ≤ 63) (sub-fits : sub ≤ 255) where
+  abbrev w : Command
+  w = writeOf n sub
+
+  pub write-fits : CommandFits w
+  write-fits = record { code = lit≤ tt; length = n-fits; sub-address = sub-fits }
+
+  module _ (size : ℕ) (b : Bases) where
+    -- inside, so it passes
+    pub write-passes : wordPlace (b .«write_base») sub + n ≤ size → anySet (tokenStatus size b (commandFirst w) (commandSecond w)) ≡ false
+    unfolding tokenStatus firstFailing anySet step2 lengthFits subStatus subFits step3 inside ruleOf table rowIn
+    write-passes h =
+        rw (command-fields w write-fits, good-passes _ _ (command-good w write-fits), le-leb 0 n (omega arith))
+        (rw (le-leb n 63 n-fits, le-leb sub 255 sub-fits, le-leb _ _ h))
+
+    -- and the other way round
+    pub write-inside : anySet (tokenStatus size b (commandFirst w) (commandSecond w)) ≡ false → wordPlace (b .«write_base») sub + n ≤ size
+    write-inside h = judged-inside size b w (rw (command-fields w write-fits) at (token-passed size b _ _ h .three)) refl

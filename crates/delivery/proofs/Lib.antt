@@ -1,0 +1,16 @@
+pub mod Accept
+pub mod Built
+pub mod Closed
+pub mod Command
+pub mod Effects
+pub mod Ended
+pub mod Examples
+pub mod Heard
+pub mod Held
+pub mod Judged
+pub mod Machine
+pub mod Read
+pub mod Readbacks
+pub mod Theorem
+pub mod Three
+pub mod Told

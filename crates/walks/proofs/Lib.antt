@@ -1,0 +1,4 @@
+pub mod Locals
+pub mod Plain
+pub mod Proved
+pub mod Walk

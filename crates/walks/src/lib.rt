@@ -1,0 +1,1 @@
+// Lemmas for proofs by hand over references to structs, in proofs/; no code.
