@@ -1,5 +1,6 @@
 #!/usr/bin/env python3
-"""Fails where a row of docs/COMPLIANCE.md names a file or a definition that is not there.
+"""Fails where a row of docs/COMPLIANCE.md or docs/UNIQUENESS.md names a file or a definition that is not there,
+and where a public function of a library is missing in docs/UNIQUENESS.md.
 
 A reference stands in backticks: `path` or `path: name, name`. The name has to be declared in the file, not just used.
 """
@@ -8,7 +9,7 @@ import re
 import sys
 
 TOP = pathlib.Path(__file__).resolve().parent.parent
-PAGE = TOP / "docs/COMPLIANCE.md"
+PAGES = ["docs/COMPLIANCE.md", "docs/UNIQUENESS.md"]
 
 DECLARED = {
     ".antt": r"^\s*(?:abbrev |unfoldable )?(?:pub )?(?:record |data |ruleset )?{0}(?=[\s:]|$)",
@@ -34,17 +35,32 @@ def missing(reference):
     return None
 
 
+def references(page):
+    """What the rows of a page's tables name."""
+    rows = [line for line in (TOP / page).read_text().splitlines() if line.startswith("|")]
+    return [r for row in rows for r in re.findall(r"`([^`]+/[^`]+)`", row)]
+
+
+def unlisted(listed):
+    """Public functions of libraries that a list does not have."""
+    for source in sorted(TOP.glob("crates/*/src/*.rt")):
+        if (source.parent / "main.rt").exists():
+            continue
+        for name in re.findall(r"^\s*pub (?:extern \"C\" )?fn (\w+)", source.read_text(), re.MULTILINE):
+            reference = f"{source.relative_to(TOP)}: {name}"
+            if reference not in listed:
+                yield f"docs/UNIQUENESS.md does not list {reference}"
+
+
 def main():
-    rows = [line for line in PAGE.read_text().splitlines() if line.startswith("|")]
-    references = [r for row in rows for r in re.findall(r"`([^`]+/[^`]+)`", row)]
-    wrong = [m for m in map(missing, references) if m]
+    found = {page: references(page) for page in PAGES}
+    wrong = [m for page in PAGES for m in map(missing, found[page]) if m]
+    wrong += unlisted(found[PAGES[1]])
     for line in wrong:
         print(f"compliance: {line}")
-    if not references:
-        print("compliance: the page names nothing")
-        return 1
-    print(f"compliance: {len(rows)} lines of tables, {len(references)} references, {len(wrong)} wrong")
-    return 1 if wrong else 0
+    for page in PAGES:
+        print(f"compliance: {page} has {len(found[page])} references")
+    return 1 if wrong or not all(found.values()) else 0
 
 
 if __name__ == "__main__":

@@ -1,8 +1,9 @@
 -- `sure::after_last` meets its contract: a good answer has its five words, and status and token say which case holds.
 -- Assumes nothing.
+use Rattle.token.specs.declared.response.Response.{Response}
 use native.Mathlib.Omega.{arith}
 use mathlib.Core.Bool.{_&&_, and-assoc}
-use mathlib.Core.Path.{_≡_, _∙_}
+use mathlib.Core.Path.{_≡_, sym, ap, _∙_}
 use borrow.Author.Needs.{needs}
 use lib.Dec.{eqb}
 use lib.ListN.{getD}
@@ -38,7 +39,8 @@ unfolding confirms readGood
 judged p =
     let a = p .before .before .before .before .before .before .before .before .before .before .args in
     let known = good (p .before .before .before .before .before) in
-    let clean : p .before .before .before .is-clean .result ≡ isClean (answerRead 2 (a .words .now) .fields .status) = cc (known .fields) in
+    let clean : p .before .before .before .is-clean .result ≡ isClean (answerRead 2 (a .words .now) .fields .status) 
+    = p .before .before .before .is-clean .ensures ∙ ap (λ (f : Response). isClean (f .status)) (sym (known .fields)) in
     rw (known .shown, p .is-token .ensures, clean)
     (and-assoc (isClean (answerRead 2 (a .words .now) .fields .status)) (eqb (getD (a .words .now) 2 0) (commandFirst (a .middle))) (eqb (getD (a .words .now) 3 0) (commandSecond (a .middle))))
 
