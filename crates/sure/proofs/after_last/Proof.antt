@@ -39,7 +39,7 @@ unfolding confirms readGood
 judged p =
     let a = p .before .before .before .before .before .before .before .before .before .before .args in
     let known = good (p .before .before .before .before .before) in
-    let clean : p .before .before .before .is-clean .result ≡ isClean (answerRead 2 (a .words .now) .fields .status) 
+    let clean : p .before .before .before .is-clean .result ≡ isClean (answerRead 2 (a .words .now) .fields .status)
     = p .before .before .before .is-clean .ensures ∙ ap (λ (f : Response). isClean (f .status)) (sym (known .fields)) in
     rw (known .shown, p .is-token .ensures, clean)
     (and-assoc (isClean (answerRead 2 (a .words .now) .fields .status)) (eqb (getD (a .words .now) 2 0) (commandFirst (a .middle))) (eqb (getD (a .words .now) 3 0) (commandSecond (a .middle))))
