@@ -9,7 +9,7 @@ from pathlib import Path
 
 sys.dont_write_bytecode = True  # leave no __pycache__ in the repository
 
-from second import known, trace, vector_records
+from second import known, sure, trace, vector_records
 
 # Each file and its maker, which gives the number of records and the content.
 FILES = [
@@ -17,6 +17,10 @@ FILES = [
     ("crates/vectors/stdout", vector_records.stdout),
     ("crates/trace/stdin", trace.example_stdin),
     ("crates/trace/stdout", trace.example_stdout),
+    ("crates/clocks/stdin", trace.example_stdin),
+    ("crates/clocks/stdout", trace.example_stdout),
+    ("crates/loads/stdin", sure.stdin),
+    ("crates/loads/stdout", sure.stdout),
     ("crates/traces/stdin", trace.traces_stdin),
     ("crates/traces/stdout", trace.traces_stdout),
     ("examples/document-01.txt", lambda: trace.shown("document-01")),
@@ -59,6 +63,7 @@ def main(arguments):
         sys.exit(__doc__)
     known.self_test()
     trace.self_test()
+    sure.self_test()
     handle = write if arguments else compare
     results = [handle(path, *maker()) for path, maker in FILES]
     return 0 if all(results) else 1

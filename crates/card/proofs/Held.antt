@@ -11,7 +11,7 @@ use lib.Dec.{eqb, leb}
 use lib.ListN.{length}
 use Rattle.rules.specs.Refusals as refusal
 use Rattle.rules.specs.Rules.{write}
-use Rattle.judge.specs.Judge.{anySet}
+use Rattle.token.specs.Response.{anySet}
 use Rattle.judge.proofs.Laws.{never}
 use Rattle.card.specs.Acting.{silent, verdict, writes, stored, endedMemory}
 use Rattle.card.specs.Card.{answer, selected, moduleRefusal, moduleSet, wordRefusal, exchanged, releaseRefusal, memoryAfter}

@@ -10,10 +10,11 @@ use lib.ListN.{length, getD, length-take}
 use lib.Seq.{getD-take}
 use Rattle.rules.specs.Refusals as refusal
 use Rattle.rules.specs.Rules.{tick, write}
-use Rattle.judge.specs.Judge.{anySet, tokenStatus, wordPlace}
+use Rattle.judge.specs.Judge.{tokenStatus, wordPlace}
 use Rattle.judge.proofs.Laws.{never, token-passed, tick-index, write-inside, Accepted, accepted}
 use Rattle.token.specs.Command.{commandFields}
 use Rattle.token.specs.declared.command.CommandToken.{CommandToken}
+use Rattle.token.specs.Response.{anySet}
 use Rattle.card.specs.Acting.{received, verdict}
 use Rattle.card.specs.Card.{wordRefusal, releaseRefusal}
 use Rattle.card.specs.Sending.{word1, word2, tokenHeard, fields, heardStatus}

@@ -9,7 +9,7 @@ use borrow.Author.Tests.{eqb-true, leb-true, ltb-true}
 use lib.Dec.{eqb, leb, ltb}
 use lib.ListN.{length}
 use Rattle.rules.specs.Refusals as refusal
-use Rattle.judge.specs.Judge.{anySet}
+use Rattle.token.specs.Response.{anySet}
 use Rattle.card.specs.Acting.{silent, verdict, acted, noted, ended}
 use Rattle.card.specs.Card.{answer, powered, selected, moduleRefusal, moduleSet, wordRefusal, exchanged, releaseRefusal, released}
 use Rattle.card.specs.Sending.{nextWord, taken}

@@ -10,10 +10,10 @@ use lib.Dec.{eqb, lit≤}
 use lib.ListN.{length}
 use Rattle.rules.specs.Refusals as refusal
 use Rattle.rules.specs.Rules.{reset}
-use Rattle.judge.specs.Judge.{anySet}
 use Rattle.judge.proofs.Laws.{never, token-passed, passed-good}
 use Rattle.token.proofs.CommandTrip.{command-good}
 use Rattle.token.specs.Command.{command, goodCommand}
+use Rattle.token.specs.Response.{anySet}
 use Rattle.card.specs.Acting.{silent, verdict, acted, noted, ended}
 use Rattle.card.specs.Card.{answer, powered, selected, moduleRefusal, moduleSet, wordRefusal, exchanged, releaseRefusal, released}
 use Rattle.card.specs.Run.{Run, PowerUp, Select, Module, Word, Release}

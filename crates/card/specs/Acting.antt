@@ -4,10 +4,10 @@ use mathlib.Core.Bool.{Bool, false, cond, not, _&&_}
 use mathlib.Core.List.{List, _++_}
 use lib.Dec.{eqb}
 use lib.ListN.{length, take, drop, getD}
-use Rattle.judge.specs.Judge.{anySet, judgement, wordPlace}
+use Rattle.judge.specs.Judge.{judgement, wordPlace}
 use Rattle.judge.specs.declared.Bases.{Bases}
 use Rattle.rules.specs.Rules.{reset, synch, tick, write, configWrite, configRead}
-use Rattle.token.specs.Response.{clean}
+use Rattle.token.specs.Response.{clean, anySet}
 use Rattle.token.specs.declared.command.Command.{Command}
 use Rattle.token.specs.declared.response.Status.{Status}
 use Rattle.card.specs.declared.Card.{Card}

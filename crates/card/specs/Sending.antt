@@ -5,10 +5,10 @@ use mathlib.Core.List.{List, [], _∷_}
 use lib.Dec.{eqb, leb, ltb}
 use lib.ListN.{getD, set}
 use Rattle.crc.specs.Crc.{crc16, crc16After}
-use Rattle.judge.specs.Judge.{anySet, tokenStatus, wordPlace}
+use Rattle.judge.specs.Judge.{tokenStatus, wordPlace}
 use Rattle.rules.specs.Rules.{read, readback}
 use Rattle.token.specs.Command.{commandFields}
-use Rattle.token.specs.Response.{response, responseFirst, responseSecond}
+use Rattle.token.specs.Response.{response, responseFirst, responseSecond, anySet}
 use Rattle.token.specs.declared.command.Command.{Command}
 use Rattle.token.specs.declared.command.CommandToken.{CommandToken}
 use Rattle.token.specs.declared.response.Response.{Response}

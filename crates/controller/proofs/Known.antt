@@ -8,10 +8,10 @@ use Rattle.crc.specs.Crc.{shift, step, feed, crc, taps4, taps16, crc4, crc16Aft
 use Rattle.rules.specs.Rules.{write, messageWords}
 use Rattle.token.specs.Command.{command, commandFirst, commandUpper, commandSecond, commandMarks, goodCommand}
 use Rattle.token.specs.Marks.{withCheck, checkRight, goodMarks}
-use Rattle.token.specs.Response.{responseMarks, goodResponse, responseFields}
-use Rattle.controller.specs.Answers.{readRefusal, tokenGood, payloadGood, fieldsRead, answerRead}
+use Rattle.token.specs.Response.{anySet, responseMarks, goodResponse, responseFields}
+use Rattle.controller.specs.Answers.{readRefusal, tokenGood, payloadGood, fieldsRead, answerRead, payloadShown}
 use Rattle.controller.specs.Messages.{isReading, withCheckWord, payload, message}
-use Rattle.controller.specs.Sure.{readbackCommand, isClean, readGood, passes, confirms}
+use Rattle.controller.specs.Sure.{readbackCommand, readGood, passes, confirms}
 
 pub messages : (
     message (command (write .code) 1 0) (0x0001 ∷ [])
@@ -39,6 +39,17 @@ pub first-readbacks : (
 unfolding passes readGood answerRead readRefusal tokenGood payloadGood agrees messageWords goodCommand commandMarks goodResponse responseMarks goodMarks checkRight crc4 crc16After crc feed step shift stream number bits taps4 taps16
 first-readbacks = refl
 
+-- the payload shown: that of document 01's READ, none where its check is wrong, and none of length 0
+pub shown : (
+    payloadShown 1 (0x8000 ∷ 0x8780 ∷ 0x0001 ∷ 0x8005 ∷ [])
+    ∷ payloadShown 1 (0x8000 ∷ 0x8780 ∷ 0x0001 ∷ 0x8004 ∷ [])
+    ∷ payloadShown 0 (0x8000 ∷ 0x8780 ∷ [])
+    ∷ []
+    )
+    ≡ ((0x0001 ∷ []) ∷ [] ∷ [] ∷ [])
+unfolding payloadShown answerRead readRefusal tokenGood payloadGood agrees messageWords goodResponse responseMarks goodMarks checkRight crc4 crc16After crc feed step shift stream number bits taps4 taps16
+shown = refl
+
 -- the last READBACK: the WRITE token with a clean status confirms, with ME it does not, nor does another WRITE's token
 pub last-readbacks : (
     confirms (command (write .code) 1 0) (0x8000 ∷ 0x8780 ∷ 0x4DC1 ∷ 0x403A ∷ 0xEB93 ∷ [])
@@ -47,5 +58,5 @@ pub last-readbacks : (
     ∷ []
     )
     ≡ (true ∷ false ∷ false ∷ [])
-unfolding confirms isClean readGood answerRead readRefusal tokenGood payloadGood fieldsRead responseFields agrees messageWords commandFirst commandUpper commandSecond withCheck goodResponse responseMarks goodMarks checkRight crc4 crc16After crc feed step shift stream number bits taps4 taps16
+unfolding confirms anySet readGood answerRead readRefusal tokenGood payloadGood fieldsRead responseFields agrees messageWords commandFirst commandUpper commandSecond withCheck goodResponse responseMarks goodMarks checkRight crc4 crc16After crc feed step shift stream number bits taps4 taps16
 last-readbacks = refl

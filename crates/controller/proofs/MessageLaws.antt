@@ -14,14 +14,14 @@ use lib.Seq.{take-all, take-suc, length-take-le, drop-drop, drop-cons, set-at, a
 use Rattle.crc.specs.Crc.{crc16}
 use Rattle.rules.specs.Refusals as refusal
 use Rattle.rules.specs.Rules.{messageWords}
-use Rattle.token.proofs.CommandTrip.{CommandFits, command-fields}
+use Rattle.token.proofs.CommandTrip.{fields-fit, command-fields}
 use Rattle.token.proofs.Good.{both}
 use Rattle.token.specs.Answers.{Built}
 use Rattle.token.specs.Command.{command, tokenOf, commandToken, commandFits, commandBuilt, commandBuiltGives, commandFields}
 use Rattle.token.specs.declared.command.Command.{Command}
 use Rattle.token.specs.declared.command.CommandBuilt.the-variants as built
 use Rattle.token.specs.declared.command.CommandToken.{CommandToken}
-use Rattle.controller.specs.Messages.{isReading, withCheckWord, payload, blockFits, layRefusal, over}
+use Rattle.controller.specs.Messages.{isReading, withCheckWord, payload, blockFits, buildRefusal, over}
 
 -- ---- words over the first places of a buffer
 
@@ -40,15 +40,15 @@ over-next words buffer i some room =
     (rw taken at (over-more (take i words) (getD words i 0) buffer (omega arith)))
 
 -- a token's two words
-pub token-laid : (buffer : List ℕ) (first second : ℕ) → 2 ≤ length buffer → set (set buffer 0 first) 1 second ≡ over (first ∷ second ∷ []) buffer
-token-laid [] first second room = absurd (omega arith)
-token-laid (a ∷ []) first second room = absurd (omega arith)
-token-laid (a ∷ b ∷ buffer) first second room = refl
+pub token-over : (buffer : List ℕ) (first second : ℕ) → 2 ≤ length buffer → set (set buffer 0 first) 1 second ≡ over (first ∷ second ∷ []) buffer
+token-over [] first second room = absurd (omega arith)
+token-over (a ∷ []) first second room = absurd (omega arith)
+token-over (a ∷ b ∷ buffer) first second room = refl
 
 -- a token and then what lies behind it
-pub message-laid : (first second : ℕ) (rest buffer : List ℕ)
+pub message-over : (first second : ℕ) (rest buffer : List ℕ)
     → take 2 (over (first ∷ second ∷ []) buffer) ++ over rest (drop 2 (over (first ∷ second ∷ []) buffer)) ≡ over (first ∷ second ∷ rest) buffer
-message-laid first second rest buffer =
+message-over first second rest buffer =
     let two : 2 + length rest ≡ suc (suc (length rest)) = omega arith in
     ap (λ (l : List ℕ). first ∷ second ∷ (rest ++ l)) (drop-drop (length rest) 2 buffer ∙ ap (λ (n : ℕ). drop n buffer) two)
 
@@ -122,9 +122,9 @@ passed-by true false one other p q h = absurd (omega arith)
 passed-by false second one other p q h = absurd (omega arith)
 
 -- a message that is not refused has a block that fits, and room
-pub lay-passed : (f : Command) (count room : ℕ) → layRefusal f count room ≡ refusal.None → (blockFits f count ≡ true) × (messageWords (f .length) ≤ room)
-unfolding layRefusal
-lay-passed f count room h =
+pub build-passed : (f : Command) (count room : ℕ) → buildRefusal f count room ≡ refusal.None → (blockFits f count ≡ true) × (messageWords (f .length) ≤ room)
+unfolding buildRefusal
+build-passed f count room h =
     let (fits, long) =
     passed-by (commandFits f && blockFits f count) (leb (messageWords (f .length)) room) refusal.Argument refusal.Room (lit< tt) (lit< tt) h in
     (both (commandFits f) (blockFits f count) fits .1, leb-true (messageWords (f .length)) room long)
@@ -151,14 +151,6 @@ unbuilt-by false made h = refl
 pub token-not-built : (code len sub : ℕ) → commandBuiltGives built.Argument ≡ commandBuilt code len sub → commandFits (command code len sub) ≡ false
 unfolding commandBuilt
 token-not-built code len sub h = unbuilt-by (commandFits (command code len sub)) (commandToken (command code len sub)) h
-
--- the same, as numbers
-pub fields-fit : (f : Command) → commandFits f ≡ true → CommandFits f
-unfolding commandFits
-fields-fit f h =
-    let (front, sub) = both (leb (f .code) 63 && leb (f .length) 63) (leb (f .«sub_address») 255) h in
-    let (code, len) = both (leb (f .code) 63) (leb (f .length) 63) front in
-    record { code = leb-true (f .code) 63 code; length = leb-true (f .length) 63 len; sub-address = leb-true (f .«sub_address») 255 sub }
 
 -- it has the fields that it was built from
 pub built-fields : (f : Command) (t : CommandToken) → commandFits f ≡ true → t ≡ commandToken f → commandFields (t .first) (t .second) ≡ f

@@ -12,11 +12,11 @@ use Rattle.controller.specs.declared.Reading.{Reading}
 use Rattle.controller.specs.declared.Reading.the-variants.{Good, BadPayload, BadToken, Argument, Count}
 use Rattle.controller.proofs.answer.payload_of.Reads as payload-of
 use Rattle.controller.proofs.answer.read_answer.Reads as read-answer
-use Rattle.controller.proofs.message.lay.Reads as lay
+use Rattle.controller.proofs.message.build.Reads as build
 
-pub one-lay : (κs : _) (a : _) (r s : _) (e f : _) → lay.Post κs a r e → lay.Post κs a s f
+pub one-build : (κs : _) (a : _) (r s : _) (e f : _) → build.Post κs a r e → build.Post κs a s f
     → (r ≡ s) × (now (e .1 .1 .1 .1 .0) ≡ now (f .1 .1 .1 .1 .0))
-one-lay κs a r s e f p q = (p .0 ∙ sym (q .0), p .1 ∙ sym (q .1))
+one-build κs a r s e f p q = (p .0 ∙ sym (q .0), p .1 ∙ sym (q .1))
 
 readingOf : Answer → Reading
 readingOf a =

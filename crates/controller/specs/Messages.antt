@@ -9,7 +9,7 @@ use Rattle.rules.specs.Refusals as refusal
 use Rattle.rules.specs.Rules.{messageWords, read, readback}
 use Rattle.token.specs.Command.{commandFits, commandFirst, commandSecond}
 use Rattle.token.specs.declared.command.Command.{Command}
-use Rattle.controller.specs.declared.Laid.{Laid}
+use Rattle.controller.specs.declared.MessageBuilt.{MessageBuilt}
 
 -- READ and READBACK
 unfoldable pub isReading : ℕ → Bool
@@ -31,16 +31,16 @@ unfoldable pub blockFits : Command → ℕ → Bool
 blockFits f count = eqb count (cond (isReading (f .code)) 0 (f .length))
 
 -- Argument, then Room
-unfoldable pub layRefusal : Command → ℕ → ℕ → ℕ
-layRefusal f count room =
+unfoldable pub buildRefusal : Command → ℕ → ℕ → ℕ
+buildRefusal f count room =
     cond (commandFits f && blockFits f count) (cond (leb (messageWords (f .length)) room) refusal.None refusal.Room)
     refusal.Argument
 
 -- the answer: the refusal number, and the number of words written
-unfoldable pub laid : Command → List ℕ → ℕ → Laid
-laid f block room = record {
-  refusal = layRefusal f (length block) room;
-  words = cond (eqb (layRefusal f (length block) room) refusal.None) (messageWords (f .length)) 0;
+unfoldable pub messageBuilt : Command → List ℕ → ℕ → MessageBuilt
+messageBuilt f block room = record {
+  refusal = buildRefusal f (length block) room;
+  words = cond (eqb (buildRefusal f (length block) room) refusal.None) (messageWords (f .length)) 0;
 }
 
 -- words put over the first places of a buffer; places behind stay
@@ -50,4 +50,4 @@ over words buffer = words ++ drop (length words) buffer
 -- the lent buffer afterwards: a refusal leaves it as it was
 unfoldable pub bufferAfter : Command → List ℕ → List ℕ → List ℕ
 bufferAfter f block buffer =
-    cond (eqb (layRefusal f (length block) (length buffer)) refusal.None) (over (message f block) buffer) buffer
+    cond (eqb (buildRefusal f (length block) (length buffer)) refusal.None) (over (message f block) buffer) buffer

@@ -9,10 +9,10 @@ use lib.ListN.{length, getD}
 use Rattle.rules.specs.Refusals as refusal
 use Rattle.rules.specs.Rules.{messageWords, readback, write}
 use Rattle.token.specs.Command.{command, commandFirst, commandSecond, goodCommand}
+use Rattle.token.specs.Response.{anySet}
 use Rattle.token.specs.declared.command.Command.{Command}
-use Rattle.token.specs.declared.response.Status.{Status}
 use Rattle.controller.specs.Answers.{answerRead}
-use Rattle.controller.specs.Messages.{layRefusal, bufferAfter}
+use Rattle.controller.specs.Messages.{buildRefusal, bufferAfter}
 use Rattle.controller.specs.declared.SureWrite.{SureWrite}
 use Rattle.controller.specs.declared.Started.{Started}
 use Rattle.controller.specs.declared.Started.the-variants as started-as
@@ -37,10 +37,6 @@ isAsk turn = eqb turn 0 || eqb turn 2 || eqb turn 4
 unfoldable pub isGive : ℕ → Bool
 isGive turn = eqb turn 1 || eqb turn 3 || eqb turn 5
 
--- ME, AR and IC are 0
-unfoldable pub isClean : Status → Bool
-isClean s = not (s .me || s .ar || s .ic)
-
 -- an answer to READBACK whose token is good and whose payload has a good CRC-16
 unfoldable pub readGood : List ℕ → Bool
 readGood words = answerRead (readback .«most_length») words .payload
@@ -53,7 +49,7 @@ passes words = readGood words && goodCommand (getD words 2 0) (getD words 3 0)
 unfoldable pub confirms : Command → List ℕ → Bool
 confirms middle words =
     readGood words
-    && isClean (answerRead (readback .«most_length») words .fields .status)
+    && not (anySet (answerRead (readback .«most_length») words .fields .status))
     && eqb (getD words 2 0) (commandFirst middle)
     && eqb (getD words 3 0) (commandSecond middle)
 
@@ -98,7 +94,7 @@ outOfState s = ltb 63 (s .length) || ltb 255 (s .«sub_address») || ltb 7 (s .t
 unfoldable pub askRefusal : SureWrite → ℕ → ℕ → ℕ
 askRefusal s count room =
     cond (outOfState s) refusal.State
-    (cond (isAsk (s .turn)) (layRefusal (commandAt (writeCommand s) (s .turn)) count room)
+    (cond (isAsk (s .turn)) (buildRefusal (commandAt (writeCommand s) (s .turn)) count room)
     refusal.Turn)
 
 unfoldable pub asked : SureWrite → List ℕ → ℕ → Asked

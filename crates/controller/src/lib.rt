@@ -1,11 +1,11 @@
-// The controller: builds command messages, reads answers, and makes the sure write.
+// The controller: builds command messages and reads answers. The sure write's types stand here too; its functions are `sure`.
 use token::response::Response;
 
 pub mod answer;
 pub mod message;
 
 // What building a message gives: the refusal's number, 0 for none, and the number of words written.
-pub struct Laid {
+pub struct MessageBuilt {
     pub refusal: u8,
     pub words: usize,
 }

@@ -1,12 +1,12 @@
-// Command messages, laid into a lent buffer.
+// Command messages, built in a lent buffer.
 ghost use mathlib.Core.Path.{_≡_};
 ghost use mathlib.Core.Bool.{true};
 ghost use mathlib.Core.List.{[], _∷_, _++_};
 ghost use Prim.Native.Nat.{_+_, _≤_};
 ghost use lib.ListN.{length, replicate, take, drop};
 ghost use Rattle.token.specs.Command.{command, commandToken, commandFits};
-ghost use Rattle.controller.specs.Messages.{isReading, withCheckWord, payload, message, blockFits, layRefusal, laid, over, bufferAfter};
-use crate::Laid;
+ghost use Rattle.controller.specs.Messages.{isReading, withCheckWord, payload, message, blockFits, buildRefusal, messageBuilt, over, bufferAfter};
+use crate::MessageBuilt;
 use rules::refusal;
 use token::command::Command;
 use token::command::CommandBuilt;
@@ -29,9 +29,9 @@ fn block_fits(fields: Command, count: usize) -> bool
 }
 
 // The refusal of a command that has a token, with a block of so many words and a buffer of so much room.
-fn lay_refusal(fields: Command, count: usize, room: usize) -> u8
+fn build_refusal(fields: Command, count: usize, room: usize) -> u8
     requires { ⌜ commandFits fields ≡ true ⌝ }
-    ensures { λ r. ⌜ r ≡ layRefusal fields count room ⌝ }
+    ensures { λ r. ⌜ r ≡ buildRefusal fields count room ⌝ }
 {
     if block_fits(fields, count) {
         if rules::message_words(fields.length) <= room {
@@ -117,32 +117,43 @@ fn write_message(buffer: &mut [u16], token: CommandToken, fields: Command, block
 }
 
 // Lays the message of a command that has a token.
-fn lay_token(token: CommandToken, fields: Command, block: &[u16], buffer: &mut [u16]) -> Laid
+fn build_from_token(
+    token: CommandToken,
+    fields: Command,
+    block: &[u16],
+    buffer: &mut [u16],
+) -> MessageBuilt
     requires { ⌜ (token ≡ commandToken fields) × (commandFits fields ≡ true) ⌝ }
-    ensures { λ r. ⌜ r ≡ laid fields (now (block .entry)) (length (now (buffer .entry))) ⌝ }
+    ensures { λ r. ⌜ r ≡ messageBuilt fields (now (block .entry)) (length (now (buffer .entry))) ⌝ }
     ensures { λ _. ⌜ now (buffer .exit) ≡ bufferAfter fields (now (block .entry)) (now (buffer .entry)) ⌝ }
 {
-    let refusal = lay_refusal(fields, block.len(), buffer.len());
+    let refusal = build_refusal(fields, block.len(), buffer.len());
     if refusal != refusal::NONE {
-        return Laid { refusal, words: 0 };
+        return MessageBuilt { refusal, words: 0 };
     }
     write_message(buffer, token, fields, block);
-    Laid {
+    MessageBuilt {
         refusal: refusal::NONE,
         words: rules::message_words(fields.length),
     }
 }
 
 // Builds the message of a command with its block in a lent buffer. A refusal leaves the buffer as it was.
-pub fn lay(code: u32, length: u32, sub_address: u32, block: &[u16], buffer: &mut [u16]) -> Laid
-    ensures { λ r. ⌜ r ≡ laid (command code length «sub_address») (now (block .entry)) (lib.ListN.length (now (buffer .entry))) ⌝ }
+pub fn build(
+    code: u32,
+    length: u32,
+    sub_address: u32,
+    block: &[u16],
+    buffer: &mut [u16],
+) -> MessageBuilt
+    ensures { λ r. ⌜ r ≡ messageBuilt (command code length «sub_address») (now (block .entry)) (lib.ListN.length (now (buffer .entry))) ⌝ }
     ensures { λ _. ⌜ now (buffer .exit) ≡ bufferAfter (command code length «sub_address») (now (block .entry)) (now (buffer .entry)) ⌝ }
 {
     let CommandBuilt::Token(token) = CommandToken::new(code, length, sub_address) else {
-        return Laid {
+        return MessageBuilt {
             refusal: refusal::ARGUMENT,
             words: 0,
         };
     };
-    lay_token(token, token.fields(), block, buffer)
+    build_from_token(token, token.fields(), block, buffer)
 }

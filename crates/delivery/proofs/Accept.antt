@@ -12,16 +12,16 @@ use lib.Seq.{take-all}
 use Rattle.crc.specs.Bits.{stream}
 use Rattle.crc.specs.Crc.{crc16, agrees}
 use Rattle.link.specs.Lines.{words, wholeWords, leftOver}
-use Rattle.link.specs.Damage.{Noise, noisy}
-use Rattle.link.proofs.Laws.{Words, length-stream, length-words, stream-words, words-take, words-below, length-noisy, words-two, words-more, Alike}
+use Rattle.link.specs.Damage.{AtMostOne, flipped}
+use Rattle.link.proofs.Laws.{Words, length-stream, length-words, stream-words, words-take, words-below, length-flipped, words-two, words-more, Alike}
 use Rattle.link.proofs.Kept.{payload-kept, behind-token, token-same}
 use Rattle.rules.specs.Rules.{messageWords}
 use Rattle.token.specs.Command.{commandFirst, commandSecond, commandFields}
-use Rattle.token.specs.Response.{clean}
+use Rattle.token.specs.Response.{clean, anySet}
 use Rattle.token.specs.declared.command.Command.{Command}
 use Rattle.token.proofs.CommandTrip.{CommandFits, command-fields}
 use Rattle.token.proofs.Good.{both}
-use Rattle.judge.specs.Judge.{me, anySet, firstFailing, tokenStatus, step4, isChecked, checkStatus, step5, endStatus, judgement}
+use Rattle.judge.specs.Judge.{me, firstFailing, tokenStatus, step4, isChecked, checkStatus, step5, endStatus, judgement}
 use Rattle.judge.specs.declared.Bases.{Bases}
 use Rattle.judge.proofs.Laws.{never, accepted}
 use Rattle.delivery.proofs.Judged.{passed-check, built-check}
@@ -117,14 +117,14 @@ module _ (t : Command) (rest : List ℕ) (s : Sendable t rest) (size : ℕ) (b :
   long = length-stream (commandFirst t ∷ commandSecond t ∷ rest)
 
   -- with a bit turned over
-  pub built-noisy : (o : Noise) → Whole size b (wholeWords (noisy o line)) (leftOver (noisy o line)) → AsBuilt t rest size b (noisy o line)
+  pub built-flipped : (o : AtMostOne) → Whole size b (wholeWords (flipped o line)) (leftOver (flipped o line)) → AsBuilt t rest size b (flipped o line)
   unfolding wholeWords Words
-  built-noisy o a =
-      let n : ℕ = length (noisy o line) / 16 in
-      let size-is : length (noisy o line) ≡ suc (suc (length rest)) * 16 = length-noisy o line ∙ long in
-      let back : stream 16 (words n (noisy o line)) ≡ noisy o line = stream-words n (noisy o line) (omega arith) in
-      let got : stream 16 (a .first ∷ a .second ∷ a .rest) ≡ noisy o line = ap (stream 16) (sym (a .are)) ∙ back in
-      let seen : Words (a .first ∷ a .second ∷ a .rest) = rw (a .are) at (words-below n (noisy o line)) in
+  built-flipped o a =
+      let n : ℕ = length (flipped o line) / 16 in
+      let size-is : length (flipped o line) ≡ suc (suc (length rest)) * 16 = length-flipped o line ∙ long in
+      let back : stream 16 (words n (flipped o line)) ≡ flipped o line = stream-words n (flipped o line) (omega arith) in
+      let got : stream 16 (a .first ∷ a .second ∷ a .rest) ≡ flipped o line = ap (stream 16) (sym (a .are)) ∙ back in
+      let seen : Words (a .first ∷ a .second ∷ a .rest) = rw (a .are) at (words-below n (flipped o line)) in
       let parts = behind-token (commandFirst t) (commandSecond t) rest (a .first) (a .second) (a .rest) o got in
       let (one, two) =
       token-same (commandFirst t) (commandSecond t) rest (a .first) (a .second) (a .rest) parts (words-two _ _ rest (s .below)) (words-two _ _ (a .rest) seen)

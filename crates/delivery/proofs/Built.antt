@@ -15,12 +15,11 @@ use Rattle.link.proofs.Laws.{Words}
 use Rattle.rules.specs.Rules.{messageWords, read, readback}
 use Rattle.token.specs.Command.{commandFirst, commandSecond}
 use Rattle.token.specs.declared.command.Command.{Command}
-use Rattle.token.proofs.CommandTrip.{CommandFits}
+use Rattle.token.proofs.CommandTrip.{CommandFits, first-below, second-below}
 use Rattle.judge.specs.Judge.{isChecked}
 use Rattle.judge.proofs.Laws.{never}
 use Rattle.controller.specs.Messages.{isReading, withCheckWord, payload, blockFits}
 use Rattle.controller.proofs.MessageLaws.{payload-block, message-whole}
-use Rattle.delivery.proofs.Judged.{first-below, second-below}
 use Rattle.delivery.proofs.Accept.{Sendable}
 
 zeros-below : (n : ℕ) → Words (replicate n 0)

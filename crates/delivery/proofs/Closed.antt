@@ -11,9 +11,9 @@ use lib.Dec.{eqb, lit≤}
 use lib.ListN.{length, take, replicate, length-take}
 use lib.Seq.{take-at}
 use Rattle.rules.specs.Rules.{write}
-use Rattle.judge.specs.Judge.{anySet, judgement}
+use Rattle.judge.specs.Judge.{judgement}
 use Rattle.token.specs.Command.{tokenOf}
-use Rattle.token.specs.Response.{clean}
+use Rattle.token.specs.Response.{clean, anySet}
 use Rattle.token.specs.declared.response.Status.{Status}
 use Rattle.card.specs.Acting.{silent, verdict, acted, noted, ended, writes, stored, endedMemory}
 use Rattle.card.specs.Card.{answer, selected, releaseRefusal, released, memoryAfter}
@@ -60,7 +60,7 @@ memoryEnded c memory ws left = cond (unheard ws left) memory (cond (anySet (judg
 pub record Closed (c : Card) (memory words : List ℕ) (left : ℕ) : Type 0 where
   -- no call is refused
   pub select-quiet : selected c .refusal ≡ 0
-  pub words-quiet : refusals (selected c .card) memory words ≡ replicate (length words) 0
+  pub words-quiet : refusals (selected c .card) memory words ≡ []
   -- the words sent, and the one that would be next
   pub sends : answers (selected c .card) memory words ++ (nextWord (after (selected c .card) memory words) memory ∷ []) ≡ spoken c memory [] 0 words
   -- the card and the memory afterwards
@@ -71,7 +71,7 @@ pub record Closed (c : Card) (memory words : List ℕ) (left : ℕ) : Type 0 whe
 
 module _ (c : Card) (memory : List ℕ) (idle : Idle c memory) where
   -- select opens the message
-  selected-idle : selected c ≡ answer 0 (holding c [] 0)
+  pub selected-idle : selected c ≡ answer 0 (holding c [] 0)
   unfolding selected holding room emptied
   selected-idle = rw (not-out c (idle .ranged), ap (λ (m : Message). m .opened) (idle .closed))
 

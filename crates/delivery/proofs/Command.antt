@@ -10,7 +10,8 @@ use Rattle.link.specs.Lines.{words}
 use Rattle.link.specs.Damage.{Damage}
 use Rattle.token.specs.Command.{commandFirst, commandSecond, commandToken}
 use Rattle.token.specs.declared.command.Command.{Command}
-use Rattle.judge.specs.Judge.{anySet, isChecked}
+use Rattle.token.specs.Response.{anySet}
+use Rattle.judge.specs.Judge.{isChecked}
 use Rattle.judge.proofs.Laws.{never}
 use Rattle.card.specs.Acting.{noted}
 use Rattle.card.specs.declared.Card.{Card}

@@ -12,12 +12,12 @@ use lib.ListN.{length}
 use Rattle.crc.specs.Bits.{stream}
 use Rattle.link.specs.Lines.{words, wholeWords, leftOver}
 use Rattle.link.specs.Damage.{Damage, undamaged}
-use Rattle.link.proofs.Laws.{Words, length-stream, words-stream, calm-same}
+use Rattle.link.proofs.Laws.{Words, length-stream, words-stream, none-flipped}
 use Rattle.token.specs.Command.{commandFirst, commandSecond, commandToken}
-use Rattle.token.specs.Response.{clean}
+use Rattle.token.specs.Response.{clean, anySet}
 use Rattle.token.specs.declared.command.Command.{Command}
 use Rattle.token.proofs.CommandTrip.{command-fields}
-use Rattle.judge.specs.Judge.{anySet, isChecked, wordPlace}
+use Rattle.judge.specs.Judge.{isChecked, wordPlace}
 use Rattle.judge.proofs.Laws.{never}
 use Rattle.card.specs.Acting.{basesAfter, timeAfter, written, acted, noted, stored}
 use Rattle.card.specs.State.{emptied}
@@ -94,7 +94,7 @@ module _ (t : Command) (block new : List ℕ) (s : Sendable t (payload t block))
 pub undamaged-works : (t : Command) (block : List ℕ) → Sendable t (payload t block) → (c : Card) (memory : List ℕ) → Idle c memory → Passes t c
     → (sent t block undamaged c memory .card .port .status ≡ clean) × (sent t block undamaged c memory .card .port .last ≡ commandToken t)
 unfolding seen message wholeWords leftOver
-undamaged-works t block s c memory idle ok = go (sent-ended t block s c memory idle undamaged) (calm-same (stream 16 (message t block)))
+undamaged-works t block s c memory idle ok = go (sent-ended t block s c memory idle undamaged) (none-flipped (stream 16 (message t block)))
   where
     go : {line : List Bool} {c′ : Card} {memory′ : List ℕ} → Ended t (payload t block) c memory line c′ memory′ → line ≡ stream 16 (message t block)
         → (c′ .port .status ≡ clean) × (c′ .port .last ≡ commandToken t)

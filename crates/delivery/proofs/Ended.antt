@@ -1,32 +1,33 @@
 -- How a damaged command ends: no bit was seen, or it is refused whole, or it is taken as it was built. And no call is refused.
 -- Assumes nothing.
-use Prim.Native.Nat.{ℕ, zero, suc, _+_, _*_, _/_, _%_, _≤_}
+use Prim.Native.Nat.{ℕ, suc, _+_, _*_, _/_, _%_, _≤_}
 use native.Mathlib.Omega.{arith}
 use mathlib.Core.Path.{_≡_, refl, sym, ap, _∙_}
 use mathlib.Core.Bool.{Bool, true, false, cond}
-use mathlib.Core.List.{List, [], _∷_, _++_}
+use mathlib.Core.List.{List, [], _∷_}
 use borrow.Author.Tests.{eqb-true}
 use lib.Dec.{eqb}
-use lib.ListN.{length, getD, take, replicate, length-take}
+use lib.ListN.{length, take, length-take}
 use lib.Seq.{take-all}
 use Rattle.crc.specs.Bits.{stream}
 use Rattle.link.specs.Lines.{wholeWords, leftOver}
-use Rattle.link.specs.Damage.{Noise, Damage, Unseen, Cut, Noisy, noisy}
-use Rattle.link.proofs.Laws.{length-stream, length-words, length-noisy}
+use Rattle.link.specs.Damage.{AtMostOne, Damage, Unseen, Cut, Flipped, flipped}
+use Rattle.link.proofs.Laws.{length-stream, length-words, length-flipped}
 use Rattle.rules.specs.Rules.{messageWords}
 use Rattle.token.specs.Command.{commandFirst, commandSecond}
 use Rattle.token.specs.declared.command.Command.{Command}
 use Rattle.token.proofs.Good.{both}
-use Rattle.judge.specs.Judge.{anySet, tokenStatus, isChecked}
+use Rattle.token.specs.Response.{anySet}
+use Rattle.judge.specs.Judge.{tokenStatus, isChecked}
 use Rattle.card.specs.Acting.{noted}
 use Rattle.card.specs.Run.{Run, Select, Word, Release}
 use Rattle.card.specs.declared.Answer.{Answer}
 use Rattle.card.specs.declared.Card.{Card}
 use Rattle.controller.specs.Messages.{payload, message}
-use Rattle.delivery.specs.Play.{after, listened, cardAfter, memoryOf, refusalsOf, Crossed, heard, crossed}
+use Rattle.delivery.specs.Play.{after, listed, listened, cardAfter, memoryOf, refusalsOf, Crossed, heard, crossed}
 use Rattle.delivery.proofs.Held.{Idle}
 use Rattle.delivery.proofs.Closed.{judgedBy, unheard, cardActed, memoryActed, cardEnded, memoryEnded, Closed, closed}
-use Rattle.delivery.proofs.Accept.{Whole, whole, Sendable, AsBuilt, built-noisy, built-cut}
+use Rattle.delivery.proofs.Accept.{Whole, whole, Sendable, AsBuilt, built-flipped, built-cut}
 
 -- ---- a line that a card heard
 
@@ -46,22 +47,6 @@ pub data Ended (t : Command) (rest : List ℕ) (c : Card) (memory : List ℕ) (l
 no-bits : (line : List Bool) → length line / 16 ≡ 0 → length line % 16 ≡ 0 → line ≡ []
 no-bits [] h g = refl
 no-bits (b ∷ line) h g = absurd (omega arith)
-
--- every number of a list of refusals is 0
-unfoldable pub Quiet : List ℕ → Type 0
-Quiet rs = (i : ℕ) → getD rs i 0 ≡ 0
-
-pub quiet-append : (rs ss : List ℕ) → Quiet rs → Quiet ss → Quiet (rs ++ ss)
-unfolding Quiet
-quiet-append [] ss h g i = g i
-quiet-append (r ∷ rs) ss h g zero = h 0
-quiet-append (r ∷ rs) ss h g (suc i) = quiet-append rs ss (λ j. h (suc j)) g i
-
-pub quiet-zeros : (n : ℕ) → Quiet (replicate n 0)
-unfolding Quiet
-quiet-zeros zero i = refl
-quiet-zeros (suc n) zero = refl
-quiet-zeros (suc n) (suc i) = quiet-zeros n i
 
 module _ (c : Card) (memory : List ℕ) (idle : Idle c memory) (line : List Bool) (short : length line ≤ 67 * 16) where
   abbrev ws : List ℕ
@@ -89,11 +74,9 @@ module _ (c : Card) (memory : List ℕ) (idle : Idle c memory) (line : List Bool
   unfolding memoryOf listened
   memory-held = is-closed .memory-is ∙ ap (λ (l : List ℕ). memoryEnded c memory l (leftOver line)) all-kept
 
-  quiet : Quiet (refusalsOf c memory line)
-  unfolding refusalsOf listened
-  quiet =
-      rw (is-closed .select-quiet, is-closed .words-quiet, is-closed .card-is)
-      (quiet-append (0 ∷ []) _ (quiet-zeros 1) (quiet-append (replicate (length ws) 0) _ (quiet-zeros (length ws)) (quiet-zeros 1)))
+  quiet : refusalsOf c memory line ≡ []
+  unfolding refusalsOf listened listed
+  quiet = rw (is-closed .select-quiet, is-closed .words-quiet, is-closed .card-is)
 
   ended : (t : Command) (rest : List ℕ) → (Whole (c .size) (c .bases) ws (leftOver line) → AsBuilt t rest (c .size) (c .bases) line)
       → Ended t rest c memory line (cardAfter c memory line) (memoryOf c memory line)
@@ -119,13 +102,13 @@ module _ (c : Card) (memory : List ℕ) (idle : Idle c memory) (line : List Bool
 
 -- a command sent
 unfoldable pub sent : Command → List ℕ → Damage → Card → List ℕ → Crossed
-sent t block d c memory = crossed d c memory (stream 16 (message t block))
+sent t block d c memory = crossed heard d c memory (stream 16 (message t block))
 
 -- what the card sees of a line
 unfoldable pub seen : Damage → List Bool → List Bool
 seen (Unseen fill) line = []
 seen (Cut k fill) line = take k line
-seen (Noisy i j) line = noisy i line
+seen (Flipped i j) line = flipped i line
 
 module _ (t : Command) (block : List ℕ) (s : Sendable t (payload t block)) (c : Card) (memory : List ℕ) (idle : Idle c memory) where
   abbrev built : List Bool
@@ -142,20 +125,20 @@ module _ (t : Command) (block : List ℕ) (s : Sendable t (payload t block)) (c 
   cut-short : (k : ℕ) → length (take k built) ≤ 67 * 16
   cut-short k = omega (arith, length-take k built, built-long)
 
-  noisy-short : (o : Noise) → length (noisy o built) ≤ 67 * 16
-  noisy-short o = omega (arith, length-noisy o built, built-long)
+  flipped-short : (o : AtMostOne) → length (flipped o built) ≤ 67 * 16
+  flipped-short o = omega (arith, length-flipped o built, built-long)
 
   pub sent-ended : (d : Damage) → Ended t (payload t block) c memory (seen d built) (sent t block d c memory .card) (sent t block d c memory .memory)
   unfolding sent crossed heard seen message
   sent-ended (Unseen fill) = Ignored refl refl refl
   sent-ended (Cut k fill) = ended c memory idle (take k built) (cut-short k) t (payload t block) (built-cut t (payload t block) s (c .size) (c .bases) k)
-  sent-ended (Noisy i j) = ended c memory idle (noisy i built) (noisy-short i) t (payload t block) (built-noisy t (payload t block) s (c .size) (c .bases) i)
+  sent-ended (Flipped i j) = ended c memory idle (flipped i built) (flipped-short i) t (payload t block) (built-flipped t (payload t block) s (c .size) (c .bases) i)
 
-  pub sent-quiet : (d : Damage) → Quiet (sent t block d c memory .refused)
+  pub sent-quiet : (d : Damage) → sent t block d c memory .refused ≡ []
   unfolding sent crossed heard
-  sent-quiet (Unseen fill) = quiet-zeros 0
+  sent-quiet (Unseen fill) = refl
   sent-quiet (Cut k fill) = quiet c memory idle (take k built) (cut-short k)
-  sent-quiet (Noisy i j) = quiet c memory idle (noisy i built) (noisy-short i)
+  sent-quiet (Flipped i j) = quiet c memory idle (flipped i built) (flipped-short i)
 
 -- ---- a card goes on running through any message
 
@@ -172,4 +155,4 @@ pub run-sent : {c : Card} → Run c → (t : Command) (block : List ℕ) (d : Da
 unfolding sent crossed heard
 run-sent r t block (Unseen fill) memory = r
 run-sent r t block (Cut k fill) memory = run-heard r memory _
-run-sent r t block (Noisy i j) memory = run-heard r memory _
+run-sent r t block (Flipped i j) memory = run-heard r memory _

@@ -14,14 +14,14 @@ use Rattle.crc.specs.Bits.{number, stream}
 use Rattle.crc.specs.Crc.{crc16}
 use Rattle.crc.proofs.Words.{stream-append}
 use Rattle.link.specs.Lines.{words, wholeWords}
-use Rattle.link.specs.Damage.{Noise, Damage, Unseen, Cut, Noisy, noisy, filled, undamaged}
-use Rattle.link.proofs.Laws.{length-stream, stream-words, words-take, words-below, words-two, calm-same, length-noisy, Words}
+use Rattle.link.specs.Damage.{AtMostOne, Damage, Unseen, Cut, Flipped, flipped, filled, undamaged}
+use Rattle.link.proofs.Laws.{length-stream, stream-words, words-take, words-below, words-two, none-flipped, length-flipped, Words}
 use Rattle.link.proofs.Kept.{behind-token, token-same}
 use Rattle.rules.specs.Rules.{messageWords}
 use Rattle.token.specs.Command.{commandFirst, commandSecond}
-use Rattle.token.specs.Response.{responseFirst, responseSecond}
+use Rattle.token.specs.Response.{responseFirst, responseSecond, anySet}
 use Rattle.token.proofs.CommandTrip.{command-fields}
-use Rattle.judge.specs.Judge.{anySet, tokenStatus}
+use Rattle.judge.specs.Judge.{tokenStatus}
 use Rattle.card.specs.Sending.{responseOf, readbackWord, passedWord, payloadWord, nextWord}
 use Rattle.card.specs.declared.Card.{Card}
 use Rattle.controller.specs.Messages.{isReading, payload, message}
@@ -96,12 +96,12 @@ mute-long c = length-stream (mute c)
 not-shown : (ws : List ℕ) (k : ℕ) → k ≤ length (stream 16 ws) → take k (stream 16 (ws ++ (0 ∷ []))) ≡ take k (stream 16 ws)
 not-shown ws k h = ap (take k) (stream-append 16 ws (0 ∷ [])) ∙ take-append-le k (stream 16 ws) _ h
 
--- ---- the line that the card saw, and what the controller got: the full answer, filled from a cut on, or with noise; or the mute one
+-- ---- the line that the card saw, and what the controller got: the full answer, filled from a cut on, or with a bit flipped; or the mute one
 
 pub data Heard (c : Card) (line got : List Bool) : Type 0 where
   Filled : (k : ℕ) (fill : Bool) → (line ≡ [] → k ≡ 0) → got ≡ filled k fill 80 (stream 16 (full c)) → Heard c line got
-  Turned : (j : Noise) → (line ≡ [] → ⊥) → got ≡ noisy j (stream 16 (full c)) → Heard c line got
-  Muted : (j : Noise) → (line ≡ [] → ⊥) → got ≡ noisy j (stream 16 (mute c)) → Heard c line got
+  Turned : (j : AtMostOne) → (line ≡ [] → ⊥) → got ≡ flipped j (stream 16 (full c)) → Heard c line got
+  Muted : (j : AtMostOne) → (line ≡ [] → ⊥) → got ≡ flipped j (stream 16 (mute c)) → Heard c line got
 
 module _ (c : Card) (memory : List ℕ) (idle : Idle c memory) where
   sent-spoken : (line : List Bool) → sentBits c memory line ≡ take (length line) (stream 16 (spoken c memory [] 0 (wholeWords line)))
@@ -130,15 +130,15 @@ module _ (c : Card) (memory : List ℕ) (idle : Idle c memory) where
       below = unfold payload isReading messageWords in readback-sendable .below
 
   -- a token with a bit turned over is refused, and then the card sends zeros
-  noisy-bits : (i : Noise) → (sentBits c memory (noisy i readbackLine) ≡ stream 16 (full c)) ⊎ (sentBits c memory (noisy i readbackLine) ≡ stream 16 (mute c))
+  flipped-bits : (i : AtMostOne) → (sentBits c memory (flipped i readbackLine) ≡ stream 16 (full c)) ⊎ (sentBits c memory (flipped i readbackLine) ≡ stream 16 (mute c))
   unfolding wholeWords words
-  noisy-bits i = go (anySet (tokenStatus (c .size) (c .bases) a b)) refl
+  flipped-bits i = go (anySet (tokenStatus (c .size) (c .bases) a b)) refl
     where
       l : List Bool
-      l = noisy i readbackLine
+      l = flipped i readbackLine
 
       long : length l ≡ 80
-      long = length-noisy i readbackLine ∙ readback-long
+      long = length-flipped i readbackLine ∙ readback-long
 
       five : wholeWords l ≡ words 5 l
       five = let n : length l / 16 ≡ 5 = omega (arith, long) in ap (λ (n : ℕ). words n l) n
@@ -149,8 +149,8 @@ module _ (c : Card) (memory : List ℕ) (idle : Idle c memory) where
       b : ℕ
       b = number (take 16 (drop 16 l))
 
-      line : stream 16 (words 5 l) ≡ noisy i (stream 16 (rb₁ ∷ rb₂ ∷ 0 ∷ 0 ∷ 0 ∷ []))
-      line = stream-words 5 l (omega (arith, long)) ∙ ap (λ (x : List ℕ). noisy i (stream 16 x)) readback-words
+      line : stream 16 (words 5 l) ≡ flipped i (stream 16 (rb₁ ∷ rb₂ ∷ 0 ∷ 0 ∷ 0 ∷ []))
+      line = stream-words 5 l (omega (arith, long)) ∙ ap (λ (x : List ℕ). flipped i (stream 16 x)) readback-words
 
       bits-are : (ws : List ℕ) → length (stream 16 ws) ≡ 80 → spoken c memory [] 0 (words 5 l) ≡ ws ++ (0 ∷ []) → sentBits c memory l ≡ stream 16 ws
       bits-are ws n e =
@@ -176,16 +176,16 @@ module _ (c : Card) (memory : List ℕ) (idle : Idle c memory) where
       Filled k fill (λ e. let z : length (take k readbackLine) ≡ 0 = ap length e in omega (arith, length-take k readbackLine, readback-long))
       (ap₂ (λ (x : List Bool) (n : ℕ). take k x ++ replicate (n - k) fill) (cut-bits k) readback-long
       ∙ ap (λ (x : List Bool). x ++ replicate (80 - k) fill) (take-take k k (stream 16 (full c)) (omega arith)))
-  readback-heard (Noisy i j) =
-      let some-bits : noisy i readbackLine ≡ [] → ⊥
-      = λ e. let z : length (noisy i readbackLine) ≡ 0 = ap length e in omega (arith, length-noisy i readbackLine, readback-long) in
-      ⊎-elim (λ e. Turned j some-bits (ap (noisy j) e)) (λ e. Muted j some-bits (ap (noisy j) e)) (noisy-bits i)
+  readback-heard (Flipped i j) =
+      let some-bits : flipped i readbackLine ≡ [] → ⊥
+      = λ e. let z : length (flipped i readbackLine) ≡ 0 = ap length e in omega (arith, length-flipped i readbackLine, readback-long) in
+      ⊎-elim (λ e. Turned j some-bits (ap (flipped j) e)) (λ e. Muted j some-bits (ap (flipped j) e)) (flipped-bits i)
 
   -- without damage it is the whole answer
   pub undamaged-got : sent readbackCommand [] undamaged c memory .got ≡ stream 16 (full c)
   unfolding sent crossed heard
   undamaged-got =
-      calm-same _
-      ∙ ap (sentBits c memory) (calm-same readbackLine ∙ sym (take-all 80 readbackLine (omega (arith, readback-long))))
+      none-flipped _
+      ∙ ap (sentBits c memory) (none-flipped readbackLine ∙ sym (take-all 80 readbackLine (omega (arith, readback-long))))
       ∙ cut-bits 80
       ∙ take-all 80 (stream 16 (full c)) (omega (arith, full-long c))

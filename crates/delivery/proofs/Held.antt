@@ -16,7 +16,7 @@ use Rattle.card.specs.declared.Card.{Card}
 use Rattle.card.specs.declared.Exchanged.{Exchanged}
 use Rattle.card.proofs.Laws.{InRange}
 use Rattle.card.proofs.Sound.{not-out}
-use Rattle.delivery.specs.Play.{after, answers, refusals}
+use Rattle.delivery.specs.Play.{after, answers, listed, refusals}
 
 -- no message is open, and the memory is the card's
 pub record Idle (c : Card) (memory : List ℕ) : Type 0 where
@@ -72,7 +72,7 @@ push-on : (ws : List ℕ) (v : ℕ) (vs : List ℕ) → take 67 (push ws v ++ vs
 unfolding push
 push-on ws v vs = take-twice 67 (ws ++ (v ∷ [])) vs ∙ ap (take 67) (append-assoc ws (v ∷ []) vs)
 
-push-short : (ws : List ℕ) (w : ℕ) → length (push ws w) ≤ 67
+pub push-short : (ws : List ℕ) (w : ℕ) → length (push ws w) ≤ 67
 unfolding push
 push-short ws w = simp length-take (omega arith)
 
@@ -86,7 +86,7 @@ module _ (c : Card) (memory : List ℕ) (idle : Idle c memory) where
   word-quiet ws k h = rw (holding-range ws k h, eq-eqb _ _ (idle .lent))
 
   -- one word, whether or not it finds room
-  step : (ws : List ℕ) (k w : ℕ) → length ws ≤ 67
+  pub step : (ws : List ℕ) (k w : ℕ) → length ws ≤ 67
       → exchanged (holding c ws k) memory w
       ≡ record { refusal = 0; card = holding c (push ws w) (nextCheck c memory ws k); sent = nextWord (holding c ws k) memory }
   unfolding exchanged taken holding nextCheck push
@@ -120,12 +120,12 @@ module _ (c : Card) (memory : List ℕ) (idle : Idle c memory) where
       ap (λ (e : Exchanged). e .sent ∷ (answers (e .card) memory vs ++ (nextWord (after (e .card) memory vs) memory ∷ []))) (step ws k v h)
       ∙ ap (λ (l : List ℕ). nextWord (holding c ws k) memory ∷ l) (answers-held (push ws v) (nextCheck c memory ws k) vs (push-short ws v))
 
-  pub refusals-held : (ws : List ℕ) (k : ℕ) (vs : List ℕ) → length ws ≤ 67 → refusals (holding c ws k) memory vs ≡ replicate (length vs) 0
-  unfolding refusals
+  pub refusals-held : (ws : List ℕ) (k : ℕ) (vs : List ℕ) → length ws ≤ 67 → refusals (holding c ws k) memory vs ≡ []
+  unfolding refusals listed
   refusals-held ws k [] h = refl
   refusals-held ws k (v ∷ vs) h =
-      ap (λ (e : Exchanged). e .refusal ∷ refusals (e .card) memory vs) (step ws k v h)
-      ∙ ap (λ (l : List ℕ). 0 ∷ l) (refusals-held (push ws v) (nextCheck c memory ws k) vs (push-short ws v))
+      ap (λ (e : Exchanged). listed (e .refusal) ++ refusals (e .card) memory vs) (step ws k v h)
+      ∙ refusals-held (push ws v) (nextCheck c memory ws k) vs (push-short ws v)
 
   -- an answer depends on the words before it alone
   pub spoken-before : (n : ℕ) (ws : List ℕ) (k : ℕ) (vs : List ℕ) → n ≤ length vs → spoken c memory ws k (take n vs) ≡ take (suc n) (spoken c memory ws k vs)

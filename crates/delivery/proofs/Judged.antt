@@ -1,6 +1,6 @@
 -- How the card judges tokens: what a passed one tells, and that READBACK's passes always, and WRITE's where its block is inside.
 -- Assumes nothing.
-use Prim.Native.Nat.{ℕ, _+_, _%_, _≤_, _<_}
+use Prim.Native.Nat.{ℕ, _+_, _%_, _≤_}
 use native.Mathlib.Nat.{div-one}
 use native.Mathlib.Omega.{arith}
 use mathlib.Core.Path.{_≡_, refl, sym, _∙_}
@@ -8,15 +8,14 @@ use mathlib.Core.Bool.{Bool, true, false, not, _&&_}
 use borrow.Author.Tests.{le-leb}
 use lib.Dec.{lit≤}
 use Rattle.crc.specs.Crc.{crc4}
-use Rattle.crc.proofs.Words.{crc4-lt}
 use Rattle.rules.specs.Rules.{ruleOf, table, rowIn, write}
-use Rattle.token.specs.Command.{command, commandFirst, commandUpper, commandSecond, commandMarks, goodCommand}
-use Rattle.token.specs.Marks.{withCheck, goodMarks}
-use Rattle.token.specs.Response.{status, clean, goodResponse}
+use Rattle.token.specs.Command.{command, commandFirst, commandSecond, commandMarks, goodCommand}
+use Rattle.token.specs.Marks.{goodMarks}
+use Rattle.token.specs.Response.{status, clean, goodResponse, anySet}
 use Rattle.token.specs.declared.command.Command.{Command}
 use Rattle.token.proofs.CommandTrip.{CommandFits, command-good, command-fields}
 use Rattle.token.proofs.Good.{good-command, good-response}
-use Rattle.judge.specs.Judge.{anySet, firstFailing, step1, lengthFits, subFits, subStatus, step2, wordPlace, inside, step3, tokenStatus}
+use Rattle.judge.specs.Judge.{firstFailing, step1, lengthFits, subFits, subStatus, step2, wordPlace, inside, step3, tokenStatus}
 use Rattle.judge.specs.declared.Bases.{Bases}
 use Rattle.judge.proofs.Laws.{never, token-passed, passed-good, write-inside as judged-inside}
 use Rattle.controller.specs.Sure.{readbackCommand}
@@ -53,17 +52,8 @@ unfolding tokenStatus firstFailing anySet step2 lengthFits subStatus subFits ste
 readback-passes size b =
     rw (command-fields readbackCommand readback-fits, good-passes _ _ (command-good readbackCommand readback-fits))
 
-module _ (t : Command) (fits : CommandFits t) where
-  pub first-below : commandFirst t < 65536
-  unfolding commandFirst
-  first-below = omega (arith, fits)
-
-  pub second-below : commandSecond t < 65536
-  unfolding commandSecond withCheck commandUpper
-  second-below = omega (arith, fits, crc4-lt (commandFirst t) (commandUpper t))
-
-  pub built-check : crc4 (commandFirst t) (commandSecond t) ≡ commandSecond t % 16
-  built-check = command-check _ _ (command-good t fits)
+pub built-check : (t : Command) → CommandFits t → crc4 (commandFirst t) (commandSecond t) ≡ commandSecond t % 16
+built-check t fits = command-check _ _ (command-good t fits)
 
 -- the WRITE of n words at a sub-address
 abbrev pub writeOf : ℕ → ℕ → Command

@@ -4,26 +4,29 @@ use Prim.Native.Nat.{ℕ, _+_, _≤_}
 use native.Mathlib.Omega.{arith}
 use mathlib.Core.Path.{_≡_, refl, sym, ap, _∙_}
 use mathlib.Core.Bool.{Bool, true, false, cond}
-use mathlib.Core.List.{List, [], _∷_, _++_}
+use mathlib.Core.List.{List, []}
 use borrow.Author.Tests.{le-ltb, le-leb, eq-eqb}
 use lib.Dec.{eqb, lit≤}
 use lib.ListN.{length, take}
 use lib.Seq.{take-at}
+use Rattle.crc.specs.Bits.{stream}
 use Rattle.link.specs.Lines.{words}
-use Rattle.link.specs.Damage.{Damage}
+use Rattle.link.specs.Damage.{Damage, Unseen, Cut, Flipped}
 use Rattle.link.proofs.Laws.{length-words}
 use Rattle.rules.specs.Rules.{messageWords}
 use Rattle.token.specs.Command.{commandFits}
 use Rattle.token.specs.declared.command.Command.{Command}
 use Rattle.card.specs.declared.Card.{Card}
-use Rattle.controller.specs.Messages.{isReading, message, blockFits, layRefusal, bufferAfter}
+use Rattle.controller.specs.Messages.{isReading, message, blockFits, buildRefusal, bufferAfter}
 use Rattle.controller.specs.Sure.{readbackCommand, commandAt, isAsk, isGive, passes, confirms, turnAfter, writeCommand, withTurn, sure, outOfState, askRefusal, asked, askedBuffer, giveRefusal, given}
 use Rattle.controller.specs.declared.Asked.{Asked}
 use Rattle.controller.specs.declared.SureWrite.{SureWrite}
 use Rattle.controller.proofs.MessageLaws.{message-whole}
-use Rattle.delivery.specs.Play.{Crossed, Going, lentBuffer, askedWords, round}
+use Rattle.delivery.specs.Play.{listed, Crossed, Hears, heard, crossed, Going, lentBuffer, askedWords, round}
+use Rattle.delivery.proofs.Held.{Idle}
 use Rattle.delivery.proofs.Judged.{writeOf}
-use Rattle.delivery.proofs.Ended.{sent}
+use Rattle.delivery.proofs.Ended.{sent, sent-quiet}
+use Rattle.delivery.proofs.Effects.{readback-sendable}
 
 -- ---- a message asked for in its turn
 
@@ -37,13 +40,13 @@ pub record Asks (s : SureWrite) (t : Command) (block : List ℕ) : Type 0 where
   pub room : messageWords (t .length) ≤ 66
 
 module _ (s : SureWrite) (t : Command) (block : List ℕ) (h : Asks s t block) (buffer : List ℕ) (long : 66 ≤ length buffer) where
-  lay-taken : layRefusal t (length block) (length buffer) ≡ 0
-  unfolding layRefusal
-  lay-taken = rw (h .fits, h .block-fits, le-leb (messageWords (t .length)) (length buffer) (omega (arith, h .room)))
+  build-taken : buildRefusal t (length block) (length buffer) ≡ 0
+  unfolding buildRefusal
+  build-taken = rw (h .fits, h .block-fits, le-leb (messageWords (t .length)) (length buffer) (omega (arith, h .room)))
 
   ask-taken : askRefusal s (length block) (length buffer) ≡ 0
   unfolding askRefusal
-  ask-taken = rw (h .in-state, h .turn, h .command-is) lay-taken
+  ask-taken = rw (h .in-state, h .turn, h .command-is) build-taken
 
   asked-at : asked s block (length buffer) ≡ record { refusal = 0; words = messageWords (t .length); state = withTurn s (s .turn + 1) }
   unfolding asked
@@ -54,7 +57,7 @@ module _ (s : SureWrite) (t : Command) (block : List ℕ) (h : Asks s t block) (
   unfolding askedWords askedBuffer bufferAfter message
   words-asked =
       ap (λ (a : Asked). take (a .words) (askedBuffer s block buffer)) asked-at
-      ∙ rw (ask-taken, h .command-is, lay-taken)
+      ∙ rw (ask-taken, h .command-is, build-taken)
       (take-at (message t block) _ (messageWords (t .length)) (omega (arith, message-whole t block (h .block-fits))))
 
 -- ---- an answer given in its turn
@@ -67,31 +70,38 @@ given-at s ws h t n = rw (h, t, eq-eqb _ _ n)
 
 -- ---- the rounds
 
--- the refusals of a round whose ask and give are taken
-abbrev pub calls : List ℕ → Crossed → List ℕ
-calls refused there = refused ++ (0 ∷ (there .refused ++ (0 ∷ [])))
+-- a message has crossed, no call was refused, and the sure write has another state
+abbrev pub arrived : SureWrite → Crossed → Going
+arrived s there = record { state = s; card = there .card; memory = there .memory; refused = [] }
 
--- a message has crossed, and the sure write has another state
-abbrev pub arrived : SureWrite → List ℕ → Crossed → Going
-arrived s refused there = record { state = s; card = there .card; memory = there .memory; refused = calls refused there }
+-- a way of hearing that is the card's own, word by word, where no message is open
+abbrev pub Hearing : Hears → Type 0
+Hearing hears = (c : Card) (memory : List ℕ) → Idle c memory → (line : List Bool) (way : List Bool → List Bool) → hears c memory line way ≡ heard c memory line way
 
-module _ (n sub : ℕ) (n-fits : n ≤ 63) (sub-fits : sub ≤ 255) (c : Card) (memory refused : List ℕ) (d : Damage) where
+crossed-same : (hears : Hears) → Hearing hears → (c : Card) (memory : List ℕ) → Idle c memory → (d : Damage) (line : List Bool)
+    → crossed hears d c memory line ≡ crossed heard d c memory line
+unfolding crossed
+crossed-same hears same c memory idle (Unseen fill) line = refl
+crossed-same hears same c memory idle (Cut k fill) line = same c memory idle _ _
+crossed-same hears same c memory idle (Flipped i j) line = same c memory idle _ _
+
+module _ (hears : Hears) (same : Hearing hears) (n sub : ℕ) (n-fits : n ≤ 63) (sub-fits : sub ≤ 255) (c : Card) (memory : List ℕ) (idle : Idle c memory) (d : Damage) where
   in-state : (turn : ℕ) → turn ≤ 7 → outOfState (sure n sub turn) ≡ false
   unfolding outOfState
   in-state turn h = rw (le-ltb 63 n n-fits, le-ltb 255 sub sub-fits, le-ltb 7 turn h)
 
   abbrev going : ℕ → Going
-  going turn = record { state = sure n sub turn; card = c; memory = memory; refused = refused }
+  going turn = record { state = sure n sub turn; card = c; memory = memory; refused = [] }
 
   round-at : (turn : ℕ) (t : Command) (block : List ℕ) → Asks (sure n sub turn) t block → turn + 1 ≤ 7 → isGive (turn + 1) ≡ true
-      → commandAt (writeCommand (sure n sub turn)) (turn + 1) ≡ t
-      → round block d (going turn)
-      ≡ arrived (sure n sub (turnAfter (writeCommand (sure n sub turn)) (turn + 1) (words (messageWords (t .length)) (sent t block d c memory .got)))) refused
+      → commandAt (writeCommand (sure n sub turn)) (turn + 1) ≡ t → sent t block d c memory .refused ≡ []
+      → round hears block d (going turn)
+      ≡ arrived (sure n sub (turnAfter (writeCommand (sure n sub turn)) (turn + 1) (words (messageWords (t .length)) (sent t block d c memory .got))))
       (sent t block d c memory)
-  unfolding round sent
-  round-at turn t block h late give same =
-      rw (asked-at (sure n sub turn) t block h lentBuffer (lit≤ tt), words-asked (sure n sub turn) t block h lentBuffer (lit≤ tt))
-      (rw (given-at (sure n sub (turn + 1)) _ (in-state (turn + 1) late) give (length-words _ _ ∙ ap (λ (x : Command). messageWords (x .length)) (sym same))))
+  unfolding round sent listed
+  round-at turn t block h late give is quiet =
+      rw (asked-at (sure n sub turn) t block h lentBuffer (lit≤ tt), words-asked (sure n sub turn) t block h lentBuffer (lit≤ tt), crossed-same hears same c memory idle d (stream 16 (message t block)))
+      (rw (given-at (sure n sub (turn + 1)) _ (in-state (turn + 1) late) give (length-words _ _ ∙ ap (λ (x : Command). messageWords (x .length)) (sym is)), quiet))
 
   readback-asked : (turn : ℕ) → turn ≤ 7 → isAsk turn ≡ true → commandAt (writeCommand (sure n sub turn)) turn ≡ readbackCommand
       → Asks (sure n sub turn) readbackCommand []
@@ -99,20 +109,23 @@ module _ (n sub : ℕ) (n-fits : n ≤ 63) (sub-fits : sub ≤ 255) (c : Card) (
   readback-asked turn h ask same =
       record { in-state = in-state turn h; turn = ask; command-is = same; fits = refl; block-fits = refl; room = lit≤ tt }
 
-  pub round-first : round [] d (going 0)
-      ≡ arrived (sure n sub (cond (passes (words 5 (sent readbackCommand [] d c memory .got))) 2 7)) refused (sent readbackCommand [] d c memory)
-  unfolding commandAt isAsk isGive turnAfter messageWords
-  round-first = round-at 0 readbackCommand [] (readback-asked 0 (lit≤ tt) refl refl) (lit≤ tt) refl refl
+  readback-quiet : sent readbackCommand [] d c memory .refused ≡ []
+  readback-quiet = sent-quiet readbackCommand [] readback-sendable c memory idle d
 
-  pub round-last : round [] d (going 4)
-      ≡ arrived (sure n sub (cond (confirms (writeOf n sub) (words 5 (sent readbackCommand [] d c memory .got))) 6 7)) refused
-      (sent readbackCommand [] d c memory)
+  pub round-first : round hears [] d (going 0)
+      ≡ arrived (sure n sub (cond (passes (words 5 (sent readbackCommand [] d c memory .got))) 2 7)) (sent readbackCommand [] d c memory)
   unfolding commandAt isAsk isGive turnAfter messageWords
-  round-last = round-at 4 readbackCommand [] (readback-asked 4 (lit≤ tt) refl refl) (lit≤ tt) refl refl
+  round-first = round-at 0 readbackCommand [] (readback-asked 0 (lit≤ tt) refl refl) (lit≤ tt) refl refl readback-quiet
 
-  pub round-write : (block : List ℕ) → length block ≡ n → round block d (going 2) ≡ arrived (sure n sub 4) refused (sent (writeOf n sub) block d c memory)
+  pub round-last : round hears [] d (going 4)
+      ≡ arrived (sure n sub (cond (confirms (writeOf n sub) (words 5 (sent readbackCommand [] d c memory .got))) 6 7)) (sent readbackCommand [] d c memory)
+  unfolding commandAt isAsk isGive turnAfter messageWords
+  round-last = round-at 4 readbackCommand [] (readback-asked 4 (lit≤ tt) refl refl) (lit≤ tt) refl refl readback-quiet
+
+  pub round-write : (block : List ℕ) → length block ≡ n → sent (writeOf n sub) block d c memory .refused ≡ []
+      → round hears block d (going 2) ≡ arrived (sure n sub 4) (sent (writeOf n sub) block d c memory)
   unfolding commandAt isAsk isGive turnAfter
-  round-write block b =
+  round-write block b quiet =
       round-at 2 (writeOf n sub) block
       (record {
         in-state = in-state 2 (lit≤ tt);
@@ -122,7 +135,7 @@ module _ (n sub : ℕ) (n-fits : n ≤ 63) (sub-fits : sub ≤ 255) (c : Card) (
         block-fits = unfold blockFits isReading in eq-eqb _ _ b;
         room = room;
       })
-      (lit≤ tt) refl refl
+      (lit≤ tt) refl refl quiet
     where
       room : messageWords n ≤ 66
       room = unfold messageWords in go (eqb n 0)

@@ -5,7 +5,7 @@ use Prim.Native.Nat.{ℕ, zero, suc, _+_, _-_, _/_, _%_, _≤_, _<_}
 use native.Mathlib.Nat.{mod-eq-of-lt}
 use native.Mathlib.Omega.{arith}
 use mathlib.Core.Path.{_≡_, sym, ap, _∙_}
-use mathlib.Core.Bool.{Bool, true, false, _&&_, true≢false}
+use mathlib.Core.Bool.{Bool, true, false, not, _&&_, true≢false}
 use mathlib.Core.List.{List, [], _∷_}
 use borrow.Author.Tests.{eqb-true, not-true}
 use lib.Dec.{eqb, ltb, lit<, lit≤}
@@ -16,22 +16,21 @@ use Rattle.crc.specs.Crc.{crc16, agrees}
 use Rattle.crc.proofs.Digits.{length-bits, bits-number, number-bits}
 use Rattle.crc.proofs.Words.{crc4-lt}
 use Rattle.link.specs.Lines.{words}
-use Rattle.link.specs.Damage.{Noise, noisy, filled}
-use Rattle.link.proofs.Laws.{Words, stream-words, words-below, length-noisy, length-filled, filled-kept, words-two}
+use Rattle.link.specs.Damage.{AtMostOne, flipped, filled}
+use Rattle.link.proofs.Laws.{Words, stream-words, words-below, length-flipped, length-filled, filled-kept, words-two}
 use Rattle.link.proofs.Kept.{token-same, behind-token}
 use Rattle.rules.specs.Rules.{messageWords}
 use Rattle.token.specs.Command.{commandFirst, commandSecond}
 use Rattle.token.specs.Marks.{at, withCheck}
-use Rattle.token.specs.Response.{responseFirst, responseUpper, responseSecond, goodResponse, responseFields}
+use Rattle.token.specs.Response.{responseFirst, responseUpper, responseSecond, goodResponse, responseFields, anySet}
 use Rattle.token.specs.declared.command.Command.{Command}
 use Rattle.token.specs.declared.response.Response.{Response}
 use Rattle.token.proofs.Good.{both, good-response}
 use Rattle.token.proofs.ResponseTrip.{response-good, response-fields}
-use Rattle.judge.specs.Judge.{anySet}
 use Rattle.card.specs.Sending.{responseOf}
 use Rattle.card.specs.declared.Card.{Card}
 use Rattle.controller.specs.Answers.{Answer, readRefusal, tokenGood, payloadGood, fieldsRead, answerRead}
-use Rattle.controller.specs.Sure.{isClean, readGood, passes, confirms}
+use Rattle.controller.specs.Sure.{readGood, passes, confirms}
 use Rattle.delivery.proofs.Judged.{response-check}
 use Rattle.delivery.proofs.Heard.{r₁, r₂, full, mute, full-long, mute-long, Heard, Filled, Turned, Muted}
 
@@ -63,12 +62,12 @@ pub record Confirmed (t : Command) (ws : List ℕ) : Type 0 where
   pub first : getD ws 2 0 ≡ commandFirst t
 
 pub confirmed : (t : Command) (ws : List ℕ) → length ws ≡ 5 → confirms t ws ≡ true → Confirmed t ws
-unfolding confirms isClean anySet agrees
+unfolding confirms anySet agrees
 confirmed t ws five h =
     let fields : Response = answerRead 2 ws .fields in
-    let (front, _) = both (readGood ws && isClean (fields .status) && eqb (getD ws 2 0) (commandFirst t)) (eqb (getD ws 3 0) (commandSecond t)) h in
-    let (read, first) = both (readGood ws && isClean (fields .status)) (eqb (getD ws 2 0) (commandFirst t)) front in
-    let (ok, status) = both (readGood ws) (isClean (fields .status)) read in
+    let (front, _) = both (readGood ws && not (anySet (fields .status)) && eqb (getD ws 2 0) (commandFirst t)) (eqb (getD ws 3 0) (commandSecond t)) h in
+    let (read, first) = both (readGood ws && not (anySet (fields .status))) (eqb (getD ws 2 0) (commandFirst t)) front in
+    let (ok, status) = both (readGood ws) (not (anySet (fields .status))) read in
     let (good, agree) = both (goodResponse (getD ws 0 0) (getD ws 1 0)) (agrees 2 (drop 2 ws)) (sym (read-good ws five) ∙ ok) in
     record {
       good = good;
@@ -120,13 +119,13 @@ prefix-bits w h e =
 
 pub length-got : (c : Card) (line got : List Bool) → Heard c line got → length got ≡ 80
 length-got c line got (Filled k fill p e) = ap length e ∙ length-filled k fill 80 (stream 16 (full c)) (full-long c)
-length-got c line got (Turned j p e) = ap length e ∙ length-noisy j (stream 16 (full c)) ∙ full-long c
-length-got c line got (Muted j p e) = ap length e ∙ length-noisy j (stream 16 (mute c)) ∙ mute-long c
+length-got c line got (Turned j p e) = ap length e ∙ length-flipped j (stream 16 (full c)) ∙ full-long c
+length-got c line got (Muted j p e) = ap length e ∙ length-flipped j (stream 16 (mute c)) ∙ mute-long c
 
 module _ (c : Card) (fits : c .«module_state» ≤ 15) (line got : List Bool) (long : length got ≡ 80)
     (good : goodResponse (getD (words 5 got) 0 0) (getD (words 5 got) 1 0) ≡ true) where
   -- with a bit turned over: the check tells
-  turned-first : (rest : List ℕ) (j : Noise) → got ≡ noisy j (stream 16 (r₁ c ∷ r₂ c ∷ rest)) → getD (words 5 got) 0 0 ≡ r₁ c
+  turned-first : (rest : List ℕ) (j : AtMostOne) → got ≡ flipped j (stream 16 (r₁ c ∷ r₂ c ∷ rest)) → getD (words 5 got) 0 0 ≡ r₁ c
   unfolding words
   turned-first rest j e =
       token-same (r₁ c) (r₂ c) rest (getD (words 5 got) 0 0) (getD (words 5 got) 1 0) (drop 2 (words 5 got))

@@ -4,7 +4,7 @@ use Prim.Native.Nat.{ℕ, zero, suc, _/_, _%_}
 use native.Mathlib.Nat.{mod-eq-of-lt, mod-lt}
 use native.Mathlib.Omega.{arith}
 use mathlib.Core.Path.{_≡_, refl, sym, ap, _∙_}
-use mathlib.Core.Bool.{Bool, true, false}
+use mathlib.Core.Bool.{Bool, true, false, not}
 use mathlib.Core.Logic.{_⊎_, inl, inr}
 use mathlib.Core.List.{List, [], _∷_, append-nil}
 use borrow.Author.Tests.{eq-eqb}
@@ -19,23 +19,22 @@ use Rattle.link.specs.Damage.{Damage, undamaged}
 use Rattle.link.proofs.Laws.{Words, length-words, words-stream}
 use Rattle.token.specs.Command.{commandFirst, commandSecond, commandToken, commandMarks, goodCommand}
 use Rattle.token.specs.Marks.{at, checkRight, goodMarks}
-use Rattle.token.specs.Response.{clean, goodResponse}
+use Rattle.token.specs.Response.{clean, goodResponse, anySet}
+use Rattle.token.specs.declared.response.Status.{Status}
 use Rattle.token.specs.declared.command.Command.{Command}
 use Rattle.token.specs.declared.command.CommandToken.{CommandToken}
 use Rattle.token.specs.declared.response.Response.{Response}
-use Rattle.token.proofs.CommandTrip.{CommandFits}
+use Rattle.token.proofs.CommandTrip.{CommandFits, first-below, second-below}
 use Rattle.token.proofs.ResponseTrip.{response-good}
-use Rattle.judge.specs.Judge.{anySet}
 use Rattle.card.specs.Acting.{noted}
 use Rattle.card.specs.Sending.{responseOf}
 use Rattle.card.specs.declared.Card.{Card}
 use Rattle.controller.specs.Answers.{answerRead}
 use Rattle.controller.specs.Messages.{payload}
-use Rattle.controller.specs.Sure.{readbackCommand, isClean, readGood, passes, confirms}
+use Rattle.controller.specs.Sure.{readbackCommand, readGood, passes, confirms}
 use Rattle.delivery.specs.Play.{Crossed}
 use Rattle.delivery.proofs.Held.{Idle}
 use Rattle.delivery.proofs.Closed.{acted-last}
-use Rattle.delivery.proofs.Judged.{first-below, second-below}
 use Rattle.delivery.proofs.Ended.{Ended, Ignored, Refused, Taken, sent, seen, sent-ended}
 use Rattle.delivery.proofs.Effects.{readbackLine, readback-sendable}
 use Rattle.delivery.proofs.Heard.{r₁, r₂, full, readback-heard, undamaged-got}
@@ -152,11 +151,11 @@ module _ (c : Card) (memory : List ℕ) (idle : Idle c memory) where
   -- the last one confirms the last token, if the status is clean
   pub undamaged-confirms : (t : Command) → CommandFits t → c .port .status ≡ clean → c .port .last ≡ commandToken t
       → confirms t (words 5 (readBack undamaged c memory .got)) ≡ true
-  unfolding confirms isClean shown
+  unfolding confirms shown anySet
   undamaged-confirms t fits s l =
       let one : low (c .port .last .first) ≡ commandFirst t = ap (λ (x : CommandToken). low (x .first)) l ∙ mod-eq-of-lt (first-below t fits) in
       let two : low (c .port .last .second) ≡ commandSecond t = ap (λ (x : CommandToken). low (x .second)) l ∙ mod-eq-of-lt (second-below t fits) in
       let is-clean : answerRead 2 (shown c) .fields .status ≡ clean
       = ap (λ (f : Response). f .status) (read-fields (shown c) refl shown-good) ∙ response-status c (idle .ranged .module-state) _ ∙ s in
       ap (confirms t) words-read
-      ∙ rw (reads-good, ap isClean is-clean, eq-eqb _ _ one, eq-eqb _ _ two)
+      ∙ rw (reads-good, ap (λ (x : Status). not (anySet x)) is-clean, eq-eqb _ _ one, eq-eqb _ _ two)

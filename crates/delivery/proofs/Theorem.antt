@@ -5,7 +5,7 @@ use native.Mathlib.Omega.{arith}
 use mathlib.Core.Path.{_≡_, refl, ap, ap₂, _∙_}
 use mathlib.Core.Bool.{Bool, true, false, cond}
 use mathlib.Core.Logic.{_⊎_, inl, inr}
-use mathlib.Core.List.{List, [], _∷_}
+use mathlib.Core.List.{List, []}
 use borrow.Author.Tests.{le-leb}
 use lib.Dec.{eqb}
 use lib.ListN.{length}
@@ -16,15 +16,15 @@ use Rattle.card.specs.declared.Card.{Card}
 use Rattle.card.proofs.Sound.{run-sound}
 use Rattle.controller.specs.Sure.{readbackCommand, passes, confirms, sure, started, verdictOf}
 use Rattle.controller.specs.declared.Verdict.the-variants.{Done, Unsure}
-use Rattle.delivery.specs.Play.{Crossed, Going, round, play}
+use Rattle.delivery.specs.Play.{listed, Crossed, Hears, heard, Going, round, play}
 use Rattle.delivery.specs.Delivery.{Written, sureWrite, verdict, Kept, Premises, Delivery, Undamaged}
 use Rattle.delivery.proofs.Judged.{write-fits}
-use Rattle.delivery.proofs.Ended.{Quiet, quiet-append, quiet-zeros, sent-quiet, run-sent}
-use Rattle.delivery.proofs.Effects.{kept-trans, readback-sendable}
+use Rattle.delivery.proofs.Ended.{sent-quiet, run-sent}
+use Rattle.delivery.proofs.Effects.{kept-trans}
 use Rattle.delivery.proofs.Told.{write-told}
 use Rattle.delivery.proofs.Readbacks.{undamaged-passes, undamaged-confirms}
 use Rattle.delivery.proofs.Command.{TakenAs, command-done}
-use Rattle.delivery.proofs.Machine.{calls, arrived, round-first, round-write, round-last}
+use Rattle.delivery.proofs.Machine.{arrived, Hearing, round-first, round-write, round-last}
 use Rattle.delivery.proofs.Three
 
 module _ {c : Card} {memory : List ℕ} {sub : ℕ} {block : List ℕ} (p : Premises c memory sub block) (d₁ d₂ d₃ : Damage) where
@@ -45,30 +45,27 @@ module _ {c : Card} {memory : List ℕ} {sub : ℕ} {block : List ℕ} (p : Prem
 
   -- ---- the play's two ends: after the first message, or after all three
 
-  abbrev refused₁ : List ℕ
-  refused₁ = calls (0 ∷ []) first
-
-  abbrev refused₂ : List ℕ
-  refused₂ = calls refused₁ second
-
   outcome : Bool → Bool → Going
   outcome a b =
-      cond a (arrived (sure (length block) sub (cond b 6 7)) refused₂ third)
-      (arrived (sure (length block) sub 7) (0 ∷ []) first)
+      cond a (arrived (sure (length block) sub (cond b 6 7)) third)
+      (arrived (sure (length block) sub 7) first)
 
-  played : sureWrite c memory sub block d₁ d₂ d₃ ≡ outcome passed-first confirmed-last
-  unfolding play started passed-first
-  played =
+  played : (hears : ℕ → Hears) → ((n : ℕ) → Hearing (hears n)) → sureWrite hears c memory sub block d₁ d₂ d₃ ≡ outcome passed-first confirmed-last
+  unfolding play started passed-first listed
+  played hears same =
       rw (le-leb (length block) 63 (p .short), le-leb sub 255 (p .sub-address))
-      (rw (round-first (length block) sub (p .short) (p .sub-address) c memory (0 ∷ []) d₁) (go passed-first))
+      (rw (round-first (hears 1) (same 1) (length block) sub (p .short) (p .sub-address) c memory (Three.idle p) d₁) (go passed-first))
     where
+      quiet : second .refused ≡ []
+      quiet = sent-quiet (Three.w p) block (Three.sendable p) (first .card) (first .memory) (Three.first-idle p d₁) d₂
+
       go : (a : Bool)
-          → (let g = arrived (sure (length block) sub (cond a 2 7)) (0 ∷ []) first in cond (eqb (g .state .turn) 7) g (round [] d₃ (round block d₂ g)))
+          → (let g = arrived (sure (length block) sub (cond a 2 7)) first in cond (eqb (g .state .turn) 7) g (round (hears 3) [] d₃ (round (hears 2) block d₂ g)))
           ≡ outcome a confirmed-last
       go false = unfold outcome in refl
       go true = unfold outcome confirmed-last in
-          (ap (round [] d₃) (round-write (length block) sub (p .short) (p .sub-address) (first .card) (first .memory) refused₁ d₂ block refl)
-          ∙ round-last (length block) sub (p .short) (p .sub-address) (second .card) (second .memory) refused₂ d₃)
+          (ap (round (hears 3) [] d₃) (round-write (hears 2) (same 2) (length block) sub (p .short) (p .sub-address) (first .card) (first .memory) (Three.first-idle p d₁) d₂ block refl quiet)
+          ∙ round-last (hears 3) (same 3) (length block) sub (p .short) (p .sub-address) (second .card) (second .memory) (Three.second-idle p d₁ d₂) d₃)
 
   -- ---- what it means
 
@@ -105,25 +102,10 @@ module _ {c : Card} {memory : List ℕ} {sub : ℕ} {block : List ℕ} (p : Prem
   ends true true = inl refl
   ends true false = inr refl
 
-  -- no call is refused
-  quiet-round : (rs : List ℕ) (x : Crossed) → Quiet rs → Quiet (x .refused) → Quiet (calls rs x)
-  quiet-round rs x h g = quiet-append rs _ h (quiet-append (0 ∷ []) _ (quiet-zeros 1) (quiet-append (x .refused) (0 ∷ []) g (quiet-zeros 1)))
-
-  unrefused : (a b : Bool) → Quiet (outcome a b .refused)
+  unrefused : (a b : Bool) → outcome a b .refused ≡ []
   unfolding outcome
-  unrefused a b = go a
-    where
-      one : Quiet refused₁
-      one = quiet-round (0 ∷ []) first (quiet-zeros 1) (sent-quiet readbackCommand [] readback-sendable c memory (Three.idle p) d₁)
-
-      two : Quiet refused₂
-      two = quiet-round refused₁ second one (sent-quiet (Three.w p) block (Three.sendable p) (first .card) (first .memory) (Three.first-idle p d₁) d₂)
-
-      go : (a : Bool) → Quiet (outcome a b .refused)
-      go false = one
-      go true =
-          quiet-round refused₂ third two
-          (sent-quiet readbackCommand [] readback-sendable (second .card) (second .memory) (Three.second-idle p d₁ d₂) d₃)
+  unrefused false b = refl
+  unrefused true b = refl
 
   kept : (a b : Bool) → Kept c (outcome a b .card)
   unfolding outcome
@@ -138,14 +120,13 @@ module _ {c : Card} {memory : List ℕ} {sub : ℕ} {block : List ℕ} (p : Prem
   runs true b =
       run-sent (run-sent (run-sent (p .run) readbackCommand [] d₁ memory) (Three.w p) block d₂ (first .memory)) readbackCommand [] d₃ (second .memory)
 
--- ---- demand 3
+-- ---- demand 3, for each way of hearing the three messages that is the card's own
 
-pub delivery : Delivery
-unfolding Quiet
-delivery c memory sub block p d₁ d₂ d₃ =
+pub delivery-by : (hears : ℕ → Hears) → ((n : ℕ) → Hearing (hears n)) → Delivery hears
+delivery-by hears same c memory sub block p d₁ d₂ d₃ =
     let a : Bool = passed-first p d₁ d₂ d₃ in
     let b : Bool = confirmed-last p d₁ d₂ d₃ in
-    rw (played p d₁ d₂ d₃) (record {
+    rw (played p d₁ d₂ d₃ hears same) (record {
       done = done p d₁ d₂ d₃ a b refl refl;
       unsure = λ v. unsure p d₁ d₂ d₃ a b;
       ends = ends p d₁ d₂ d₃ a b;
@@ -155,12 +136,19 @@ delivery c memory sub block p d₁ d₂ d₃ =
     })
 
 -- without damage both READBACKs say so
-pub undamaged-delivery : Undamaged
+pub undamaged-by : (hears : ℕ → Hears) → ((n : ℕ) → Hearing (hears n)) → Undamaged hears
 unfolding outcome verdictOf passed-first confirmed-last
-undamaged-delivery c memory sub block p inside =
+undamaged-by hears same c memory sub block p inside =
     let (status, last) = Three.write-accepted p inside in
     let passed : passed-first p undamaged undamaged undamaged ≡ true = undamaged-passes c memory (Three.idle p) (run-sound (p .run) .last) in
     let confirmed : confirmed-last p undamaged undamaged undamaged ≡ true
     = undamaged-confirms (Three.second p undamaged undamaged .card) (Three.second p undamaged undamaged .memory) (Three.second-idle p undamaged undamaged)
     (Three.w p) (write-fits (length block) sub (p .short) (p .sub-address)) status last in
-    ap verdict (played p undamaged undamaged undamaged ∙ ap₂ (outcome p undamaged undamaged undamaged) passed confirmed)
+    ap verdict (played p undamaged undamaged undamaged hears same ∙ ap₂ (outcome p undamaged undamaged undamaged) passed confirmed)
+
+-- word by word, it is
+pub delivery : Delivery (λ n. heard)
+delivery = delivery-by (λ n. heard) (λ n c memory idle line way. refl)
+
+pub undamaged-delivery : Undamaged (λ n. heard)
+undamaged-delivery = undamaged-by (λ n. heard) (λ n c memory idle line way. refl)

@@ -13,16 +13,17 @@ use Rattle.crc.specs.Crc.{shift, step, feed, crc, taps16, crc16, crc16After}
 use Rattle.crc.proofs.Register.{bits-zero}
 use Rattle.crc.proofs.Words.{crc16-lt}
 use Rattle.link.specs.Lines.{words}
-use Rattle.link.specs.Damage.{Noise, noisy, filled}
+use Rattle.link.specs.Damage.{AtMostOne, flipped, filled}
 use Rattle.link.proofs.Laws.{Words, stream-words, words-below, filled-before, filled-kept, words-more}
 use Rattle.link.proofs.Kept.{payload-kept, behind-token}
 use Rattle.rules.specs.Rules.{write}
 use Rattle.token.specs.Command.{command, commandFirst, commandToken}
 use Rattle.token.specs.declared.command.Command.{Command}
 use Rattle.token.specs.declared.command.CommandToken.{CommandToken}
+use Rattle.token.proofs.CommandTrip.{first-below, second-below}
 use Rattle.card.specs.declared.Card.{Card}
 use Rattle.controller.specs.Sure.{readbackCommand}
-use Rattle.delivery.proofs.Judged.{first-below, second-below, readback-fits}
+use Rattle.delivery.proofs.Judged.{readback-fits}
 use Rattle.delivery.proofs.Heard.{rb₁, rb₂, r₁, r₂, full, mute, full-long, Heard, Filled, Turned, Muted}
 use Rattle.delivery.proofs.Read.{word-bit, Confirmed}
 
@@ -77,7 +78,7 @@ readback-bit c i h l =
 
 module _ (c : Card) (line got : List Bool) (long : length got ≡ 80) (t : Command) (told : Told t) (is : Confirmed t (words 5 got)) where
   -- a payload with a bit turned over: the check tells
-  turned-payload : (a b d : ℕ) (j : Noise) → Words (a ∷ b ∷ d ∷ []) → got ≡ noisy j (stream 16 (r₁ c ∷ r₂ c ∷ a ∷ b ∷ d ∷ [])) → crc16 (a ∷ b ∷ []) ≡ d
+  turned-payload : (a b d : ℕ) (j : AtMostOne) → Words (a ∷ b ∷ d ∷ []) → got ≡ flipped j (stream 16 (r₁ c ∷ r₂ c ∷ a ∷ b ∷ d ∷ [])) → crc16 (a ∷ b ∷ []) ≡ d
       → commandFirst t ≡ a
   unfolding words
   turned-payload a b d j h e check =
@@ -111,7 +112,7 @@ module _ (c : Card) (line got : List Bool) (long : length got ≡ 80) (t : Comma
   not-readback (Turned j p e) l =
       let same : commandFirst t ≡ rb₁
       = turned-payload rb₁ rb₂ _ j readback-payload
-      (e ∙ ap (λ (x : CommandToken). noisy j (stream 16 (r₁ c ∷ r₂ c ∷ x .first ∷ x .second ∷ crc16 (x .first ∷ x .second ∷ []) ∷ []))) l) refl in
+      (e ∙ ap (λ (x : CommandToken). flipped j (stream 16 (r₁ c ∷ r₂ c ∷ x .first ∷ x .second ∷ crc16 (x .first ∷ x .second ∷ []) ∷ []))) l) refl in
       told .other (ap (λ (w : ℕ). getD (bits 16 w) (told .place) false) same)
   not-readback (Muted j p e) l =
       let same : commandFirst t ≡ 0 = turned-payload 0 0 0 j zeros-payload e zeros-check in

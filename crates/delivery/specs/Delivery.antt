@@ -4,15 +4,15 @@
 -- It is stated over the definitions that the contracts of card and controller cite, so over what their functions compute:
 --   the card        `selected`, `exchanged`, `released`, `memoryAfter` (Play.antt puts them together to whole messages),
 --   the controller  `started`, `asked` with `askedBuffer`, `given`, `verdictOf`,
---   the damage      `Unseen`, `Cut`, `Noisy` (crate link, Damage.antt).
--- The proofs are `delivery` and `undamaged-delivery` of proofs/Theorem.antt.
+--   the damage      `Unseen`, `Cut`, `Flipped` (crate link, Damage.antt).
+-- `hears n` is how the card hears message n: word by word (`heard` of Play.antt), or bit by bit behind its shifter (`atPins` of the crate pins).
+-- The proofs are `delivery` and `undamaged-delivery` of proofs/Theorem.antt, and `delivery-at-pins` and `undamaged-at-pins` of the crate pins.
 use Prim.Native.Nat.{ℕ, _+_, _≤_, _<_}
 use mathlib.Core.Bool.{false}
-use mathlib.Core.List.{List, [], _∷_}
+use mathlib.Core.List.{List, []}
 use mathlib.Core.Logic.{_⊎_}
 use mathlib.Core.Path.{_≡_}
 use lib.ListN.{length, getD}
-use Rattle.rules.specs.Refusals as refusal
 use Rattle.judge.specs.Judge.{wordPlace}
 use Rattle.link.specs.Damage.{Damage, undamaged}
 use Rattle.card.specs.Acting.{written}
@@ -22,7 +22,7 @@ use Rattle.card.specs.declared.Card.{Card}
 use Rattle.controller.specs.Sure.{started, verdictOf}
 use Rattle.controller.specs.declared.Verdict.{Verdict}
 use Rattle.controller.specs.declared.Verdict.the-variants.{Done, Unsure}
-use Rattle.delivery.specs.Play.{Going, play}
+use Rattle.delivery.specs.Play.{Hears, listed, Going, play}
 
 -- ---- the block and the memory
 
@@ -41,10 +41,10 @@ Written c memory sub block now = Inside c sub block × (now ≡ written memory (
 -- ---- the sure write
 
 -- the sure write of a block to a sub-address, from a card and its memory, with a damage to each of its three messages
-abbrev pub sureWrite : Card → List ℕ → ℕ → List ℕ → Damage → Damage → Damage → Going
-sureWrite c memory sub block d₁ d₂ d₃ =
+abbrev pub sureWrite : (ℕ → Hears) → Card → List ℕ → ℕ → List ℕ → Damage → Damage → Damage → Going
+sureWrite hears c memory sub block d₁ d₂ d₃ =
     let start = started (length block) sub in
-    play block d₁ d₂ d₃ (record { state = start .state; card = c; memory = memory; refused = start .refusal ∷ [] })
+    play hears block d₁ d₂ d₃ (record { state = start .state; card = c; memory = memory; refused = listed (start .refusal) })
 
 -- the verdict that it ends with
 abbrev pub verdict : Going → Verdict
@@ -68,7 +68,7 @@ pub record Meaning (c : Card) (memory : List ℕ) (sub : ℕ) (block : List ℕ)
   pub unsure : verdict end ≡ Unsure → (end .memory ≡ memory) ⊎ Written c memory sub block (end .memory)
   -- there is a verdict, and neither card nor controller refused a call
   pub ends : (verdict end ≡ Done) ⊎ (verdict end ≡ Unsure)
-  pub unrefused : (i : ℕ) → getD (end .refused) i refusal.None ≡ refusal.None
+  pub unrefused : end .refused ≡ []
   -- size, bases, time, STF and module state stay; and the card is one that was run from power-up, so that the next sure write can follow
   pub kept : Kept c (end .card)
   pub runs : Run (end .card)
@@ -82,12 +82,12 @@ pub record Premises (c : Card) (memory : List ℕ) (sub : ℕ) (block : List ℕ
   pub short : length block ≤ 63
   pub words : (i : ℕ) → getD block i 0 < 65536
 
--- whatever befalls the three messages
-abbrev pub Delivery : Type 0
-Delivery = (c : Card) (memory : List ℕ) (sub : ℕ) (block : List ℕ) → Premises c memory sub block
-    → (d₁ d₂ d₃ : Damage) → Meaning c memory sub block (sureWrite c memory sub block d₁ d₂ d₃)
+-- whatever befalls the three messages, the verdict has its meaning
+abbrev pub Delivery : (ℕ → Hears) → Type 0
+Delivery hears = (c : Card) (memory : List ℕ) (sub : ℕ) (block : List ℕ) → Premises c memory sub block
+    → (d₁ d₂ d₃ : Damage) → Meaning c memory sub block (sureWrite hears c memory sub block d₁ d₂ d₃)
 
 -- and with no damage a block that is inside is Done
-abbrev pub Undamaged : Type 0
-Undamaged = (c : Card) (memory : List ℕ) (sub : ℕ) (block : List ℕ) → Premises c memory sub block
-    → Inside c sub block → verdict (sureWrite c memory sub block undamaged undamaged undamaged) ≡ Done
+abbrev pub Undamaged : (ℕ → Hears) → Type 0
+Undamaged hears = (c : Card) (memory : List ℕ) (sub : ℕ) (block : List ℕ) → Premises c memory sub block
+    → Inside c sub block → verdict (sureWrite hears c memory sub block undamaged undamaged undamaged) ≡ Done

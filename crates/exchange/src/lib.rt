@@ -20,6 +20,7 @@ use token::command::CommandToken;
 use token::response::Response;
 use token::response::ResponseBuilt;
 use token::response::ResponseToken;
+use token::response::any_set;
 
 fn response_token(card: Card) -> ResponseToken
     requires { ⌜ card .«module_state» ≤ 15 ⌝ }
@@ -99,7 +100,7 @@ fn payload_word(card: Card, memory: &[u16], k: usize) -> u16
 {
     let token = token_of(card);
     let status = judge::token_status(card.size, card.bases, token);
-    if judge::any_set(status) {
+    if any_set(status) {
         return 0;
     }
     passed_word(card, memory, token.fields(), k)
@@ -129,7 +130,7 @@ fn sends_read(card: Card) -> bool
     }
     let token = token_of(card);
     let status = judge::token_status(card.size, card.bases, token);
-    if judge::any_set(status) {
+    if any_set(status) {
         return false;
     }
     let fields = token.fields();

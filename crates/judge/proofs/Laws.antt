@@ -11,10 +11,10 @@ use Rattle.rules.specs.Rules.{table, rowIn, ruleOf, tick, read, write}
 use Rattle.rules.specs.declared.Found.the-variants.{Row}
 use Rattle.token.specs.Command.{commandMarks, goodCommand, commandFields}
 use Rattle.token.specs.Marks.{goodMarks}
-use Rattle.token.specs.Response.{clean}
+use Rattle.token.specs.Response.{clean, anySet}
 use Rattle.token.specs.declared.command.Command.{Command}
 use Rattle.token.specs.declared.response.Status.{Status}
-use Rattle.judge.specs.Judge.{me, ar, ic, anySet, firstFailing, step1, lengthFits, subFits, subStatus, step2, wordPlace, inside, step3, tokenStatus, step4, step5, endStatus, judgement}
+use Rattle.judge.specs.Judge.{me, ar, ic, firstFailing, step1, lengthFits, subFits, subStatus, step2, wordPlace, inside, step3, tokenStatus, step4, step5, endStatus, judgement}
 use Rattle.judge.specs.declared.Bases.{Bases}
 
 pub never {ℓ} : {A : Type ℓ} → true ≡ false → A

@@ -1,13 +1,9 @@
 -- Each public operation's contract leaves one answer.
 -- Assumes nothing.
 use mathlib.Core.Path.{_≡_, sym, _∙_}
-use Rattle.judge.proofs.any_set.Reads as any-set
 use Rattle.judge.proofs.word_place.Reads as word-place
 use Rattle.judge.proofs.token_status.Reads as token-status
 use Rattle.judge.proofs.judgement.Reads as judgement
-
-pub one-any-set : (κs : _) (a : _) (r s : _) (e f : _) → any-set.Post κs a r e → any-set.Post κs a s f → r ≡ s
-one-any-set κs a r s e f p q = p ∙ sym q
 
 pub one-word-place : (κs : _) (a : _) (r s : _) (e f : _) → word-place.Post κs a r e → word-place.Post κs a s f → r ≡ s
 one-word-place κs a r s e f p q = p ∙ sym q

@@ -10,7 +10,7 @@ use Rattle.rules.specs.declared.Rule.{Rule}
 use Rattle.rules.specs.declared.Found.{Found}
 use Rattle.rules.specs.declared.Found.the-variants.{Row, NotInTable}
 use Rattle.token.specs.Command.{commandMarks, commandFields}
-use Rattle.token.specs.Response.{status, clean}
+use Rattle.token.specs.Response.{status, clean, anySet}
 use Rattle.token.specs.declared.command.Command.{Command}
 use Rattle.token.specs.declared.marks.Marks.{Marks}
 use Rattle.token.specs.declared.response.Status.{Status}
@@ -24,10 +24,6 @@ ar = status false true false
 
 abbrev pub ic : Status
 ic = status false false true
-
--- some bit is set
-unfoldable pub anySet : Status → Bool
-anySet s = s .me || s .ar || s .ic
 
 -- the first failing step decides
 unfoldable pub firstFailing : Status → Status → Status

@@ -7,7 +7,7 @@ ghost use mathlib.Core.Bool.{cond};
 ghost use lib.ListN.{length};
 ghost use Rattle.rules.specs.declared.Found.the-variants.{Row};
 ghost use Rattle.token.specs.Response.{clean};
-ghost use Rattle.judge.specs.Judge.{ar, anySet, step1, lengthFits, subFits, subStatus, step2, wordPlace, inside, step3, tokenStatus, step4, isChecked, checkStatus, step5, endStatus};
+ghost use Rattle.judge.specs.Judge.{ar, step1, lengthFits, subFits, subStatus, step2, wordPlace, inside, step3, tokenStatus, step4, isChecked, checkStatus, step5, endStatus};
 ghost use Rattle.judge.specs.Judge;
 use rules::Found;
 use rules::Rule;
@@ -15,6 +15,7 @@ use token::command::Command;
 use token::command::CommandToken;
 use token::marks::Marks;
 use token::response::Status;
+use token::response::any_set;
 
 // From where on a card writes and reads.
 pub struct Bases {
@@ -45,13 +46,6 @@ const IC: Status = Status {
     ar: false,
     ic: true,
 };
-
-// Whether some bit is set, and so a step failed.
-pub fn any_set(status: Status) -> bool
-    ensures { λ r. ⌜ r ≡ anySet status ⌝ }
-{
-    status.me | status.ar | status.ic
-}
 
 fn step_1(marks: Marks) -> Status
     ensures { λ r. ⌜ r ≡ step1 marks ⌝ }

@@ -10,8 +10,8 @@ use Rattle.crc.specs.Bits.{stream}
 use Rattle.crc.specs.Crc.{crc4, crc16}
 use Rattle.crc.proofs.Checks.{token-flip-seen, words-flip-seen, stream-injective}
 use Rattle.crc.proofs.Words.{stream-append}
-use Rattle.link.specs.Damage.{Noise, noisy}
-use Rattle.link.proofs.Laws.{Words, length-stream, length-noisy, Alike, Same, Flipped, noise-alike, parted}
+use Rattle.link.specs.Damage.{AtMostOne, flipped}
+use Rattle.link.proofs.Laws.{Words, length-stream, length-flipped, Alike, Same, OneFlip, flipped-alike, parted}
 
 -- ---- checks that are right
 
@@ -19,13 +19,13 @@ token-kept : (a b c d : ℕ) → Words (a ∷ b ∷ []) → Words (c ∷ d ∷ [
     → crc4 a b ≡ b % 16 → crc4 c d ≡ d % 16 → _≡_ {A = List ℕ} (c ∷ d ∷ []) (a ∷ b ∷ [])
 unfolding Words
 token-kept a b c d h g (Same e) p q = stream-injective 16 (c ∷ d ∷ []) (a ∷ b ∷ []) g h refl e
-token-kept a b c d h g (Flipped f) p q = absurd (token-flip-seen a b c d p q f)
+token-kept a b c d h g (OneFlip f) p q = absurd (token-flip-seen a b c d p q f)
 
 words-kept : (xs ys : List ℕ) (k l : ℕ) → Words (xs ++ (k ∷ [])) → Words (ys ++ (l ∷ [])) → length ys ≡ length xs → k < 65536 → l < 65536
     → crc16 xs ≡ k → crc16 ys ≡ l → Alike (stream 16 (xs ++ (k ∷ []))) (stream 16 (ys ++ (l ∷ []))) → ys ++ (l ∷ []) ≡ xs ++ (k ∷ [])
 unfolding Words
 words-kept xs ys k l h g n hk hl p q (Same e) = stream-injective 16 (ys ++ (l ∷ [])) (xs ++ (k ∷ [])) g h (simp length-append (omega arith)) e
-words-kept xs ys k l h g n hk hl p q (Flipped f) = absurd (words-flip-seen xs ys k l hk hl p q f)
+words-kept xs ys k l h g n hk hl p q (OneFlip f) = absurd (words-flip-seen xs ys k l hk hl p q f)
 
 -- words as a front and its last
 front-last : (ws : List ℕ) (n : ℕ) → length ws ≡ suc n → ws ≡ take n ws ++ (getD ws n 0 ∷ [])
@@ -52,26 +52,26 @@ pub record Apart (us vs ws xs : List ℕ) : Type 0 where
   pub front : Alike (stream 16 us) (stream 16 ws)
   pub back : Alike (stream 16 vs) (stream 16 xs)
 
-apart : (us vs ws xs : List ℕ) (o : Noise) → length ws ≡ length us → stream 16 (ws ++ xs) ≡ noisy o (stream 16 (us ++ vs)) → Apart us vs ws xs
+apart : (us vs ws xs : List ℕ) (o : AtMostOne) → length ws ≡ length us → stream 16 (ws ++ xs) ≡ flipped o (stream 16 (us ++ vs)) → Apart us vs ws xs
 apart us vs ws xs o n e =
     let p = parted o (stream 16 us) (stream 16 vs) in
-    let whole : stream 16 ws ++ stream 16 xs ≡ noisy (p .front) (stream 16 us) ++ noisy (p .back) (stream 16 vs)
-    = sym (stream-append 16 ws xs) ∙ e ∙ ap (noisy o) (stream-append 16 us vs) ∙ p .joined in
+    let whole : stream 16 ws ++ stream 16 xs ≡ flipped (p .front) (stream 16 us) ++ flipped (p .back) (stream 16 vs)
+    = sym (stream-append 16 ws xs) ∙ e ∙ ap (flipped o) (stream-append 16 us vs) ∙ p .joined in
     let long : length (stream 16 ws) ≡ length ws * 16 = length-stream ws in
-    let far : length (noisy (p .front) (stream 16 us)) ≡ length ws * 16
-    = length-noisy (p .front) (stream 16 us) ∙ length-stream us ∙ ap (λ (x : ℕ). x * 16) (sym n) in
-    let front : stream 16 ws ≡ noisy (p .front) (stream 16 us)
+    let far : length (flipped (p .front) (stream 16 us)) ≡ length ws * 16
+    = length-flipped (p .front) (stream 16 us) ∙ length-stream us ∙ ap (λ (x : ℕ). x * 16) (sym n) in
+    let front : stream 16 ws ≡ flipped (p .front) (stream 16 us)
     = sym (take-at (stream 16 ws) _ (length ws * 16) long)
     ∙ ap (take (length ws * 16)) whole
-    ∙ take-at (noisy (p .front) (stream 16 us)) _ (length ws * 16) far in
-    let back : stream 16 xs ≡ noisy (p .back) (stream 16 vs)
+    ∙ take-at (flipped (p .front) (stream 16 us)) _ (length ws * 16) far in
+    let back : stream 16 xs ≡ flipped (p .back) (stream 16 vs)
     = sym (drop-at (stream 16 ws) _ (length ws * 16) long)
     ∙ ap (drop (length ws * 16)) whole
-    ∙ drop-at (noisy (p .front) (stream 16 us)) _ (length ws * 16) far in
-    record { front = rw front (noise-alike (p .front) (stream 16 us)); back = rw back (noise-alike (p .back) (stream 16 vs)) }
+    ∙ drop-at (flipped (p .front) (stream 16 us)) _ (length ws * 16) far in
+    record { front = rw front (flipped-alike (p .front) (stream 16 us)); back = rw back (flipped-alike (p .back) (stream 16 vs)) }
 
 -- a token and what follows it, got with at most one bit turned over
-pub behind-token : (x y : ℕ) (ws : List ℕ) (a b : ℕ) (vs : List ℕ) (o : Noise) → stream 16 (a ∷ b ∷ vs) ≡ noisy o (stream 16 (x ∷ y ∷ ws))
+pub behind-token : (x y : ℕ) (ws : List ℕ) (a b : ℕ) (vs : List ℕ) (o : AtMostOne) → stream 16 (a ∷ b ∷ vs) ≡ flipped o (stream 16 (x ∷ y ∷ ws))
     → Apart (x ∷ y ∷ []) ws (a ∷ b ∷ []) vs
 behind-token x y ws a b vs o e = apart (x ∷ y ∷ []) ws (a ∷ b ∷ []) vs o refl e
 

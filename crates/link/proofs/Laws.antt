@@ -16,7 +16,7 @@ use Rattle.crc.specs.Bits.{bits, number, stream}
 use Rattle.crc.specs.Damage.{Flip}
 use Rattle.crc.proofs.Digits.{length-bits, number-bits, bits-number, number-lt}
 use Rattle.link.specs.Lines.{words}
-use Rattle.link.specs.Damage.{Noise, calm, flipAt, noisy, filled}
+use Rattle.link.specs.Damage.{AtMostOne, flipAt, flipped, filled}
 
 -- ---- words
 
@@ -92,14 +92,14 @@ words-more x y ws h i = h (suc (suc i))
 
 -- ---- one bit turned over
 
-pub calm-same : (line : List Bool) → noisy calm line ≡ line
-unfolding noisy
-calm-same line = refl
+pub none-flipped : (line : List Bool) → flipped none line ≡ line
+unfolding flipped
+none-flipped line = refl
 
-pub length-noisy : (o : Noise) (line : List Bool) → length (noisy o line) ≡ length line
-unfolding noisy flipAt
-length-noisy none line = refl
-length-noisy (some i) line = at i line
+pub length-flipped : (o : AtMostOne) (line : List Bool) → length (flipped o line) ≡ length line
+unfolding flipped flipAt
+length-flipped none line = refl
+length-flipped (some i) line = at i line
   where
     at : (i : ℕ) (line : List Bool) → length (flipAt i line) ≡ length line
     at i [] = refl
@@ -107,13 +107,13 @@ length-noisy (some i) line = at i line
     at (suc i) (b ∷ line) = ap suc (at i line)
 
 -- in two parts at most one bit of each is turned over
-pub record Parted (o : Noise) (xs ys : List Bool) : Type 0 where
-  pub front : Noise
-  pub back : Noise
-  pub joined : noisy o (xs ++ ys) ≡ noisy front xs ++ noisy back ys
+pub record Parted (o : AtMostOne) (xs ys : List Bool) : Type 0 where
+  pub front : AtMostOne
+  pub back : AtMostOne
+  pub joined : flipped o (xs ++ ys) ≡ flipped front xs ++ flipped back ys
 
-pub parted : (o : Noise) (xs ys : List Bool) → Parted o xs ys
-unfolding noisy flipAt
+pub parted : (o : AtMostOne) (xs ys : List Bool) → Parted o xs ys
+unfolding flipped flipAt
 parted none xs ys = record { front = none; back = none; joined = refl }
 parted (some i) xs ys = at i xs
   where
@@ -125,7 +125,7 @@ parted (some i) xs ys = at i xs
         more : Parted (some i) xs ys → Parted (some (suc i)) (x ∷ xs) ys
         more p = go (p .front) (p .joined)
           where
-            go : (f : Noise) → flipAt i (xs ++ ys) ≡ noisy f xs ++ noisy (p .back) ys → Parted (some (suc i)) (x ∷ xs) ys
+            go : (f : AtMostOne) → flipAt i (xs ++ ys) ≡ flipped f xs ++ flipped (p .back) ys → Parted (some (suc i)) (x ∷ xs) ys
             go none e = record { front = none; back = p .back; joined = ap (λ (l : List Bool). x ∷ l) e }
             go (some f) e = record { front = some (suc f); back = p .back; joined = ap (λ (l : List Bool). x ∷ l) e }
 
@@ -151,18 +151,18 @@ flip-behind i [] h = refl
 flip-behind zero (b ∷ line) h = absurd (omega arith)
 flip-behind (suc i) (b ∷ line) h = ap (λ (l : List Bool). b ∷ l) (flip-behind i line (omega arith))
 
--- what noise leaves of a line: the line itself, or one flipped bit
+-- what is left of a line: the line itself, or one flipped bit
 pub data Alike (sent got : List Bool) : Type 0 where
   Same : got ≡ sent → Alike sent got
-  Flipped : Flip sent got → Alike sent got
+  OneFlip : Flip sent got → Alike sent got
 
-pub noise-alike : (o : Noise) (line : List Bool) → Alike line (noisy o line)
-unfolding noisy
-noise-alike none line = Same refl
-noise-alike (some i) line = go (ltb i (length line)) refl
+pub flipped-alike : (o : AtMostOne) (line : List Bool) → Alike line (flipped o line)
+unfolding flipped
+flipped-alike none line = Same refl
+flipped-alike (some i) line = go (ltb i (length line)) refl
   where
     go : (b : Bool) → ltb i (length line) ≡ b → Alike line (flipAt i line)
-    go true e = Flipped (flip-at i line (ltb-true i (length line) e))
+    go true e = OneFlip (flip-at i line (ltb-true i (length line) e))
     go false e = Same (flip-behind i line (ltb-false i (length line) e))
 
 -- ---- a line filled up

@@ -12,16 +12,13 @@ flipAt i [] = []
 flipAt zero (b ∷ line) = not b ∷ line
 flipAt (suc i) (b ∷ line) = b ∷ flipAt i line
 
--- what may befall the bits of one way: nothing, or one bit is turned over
-abbrev pub Noise : Type 0
-Noise = Option ℕ
+-- at most one bit of a line: none, or some place
+abbrev pub AtMostOne : Type 0
+AtMostOne = Option ℕ
 
-abbrev pub calm : Noise
-calm = none
-
-unfoldable pub noisy : Noise → List Bool → List Bool
-noisy none line = line
-noisy (some i) line = flipAt i line
+unfoldable pub flipped : AtMostOne → List Bool → List Bool
+flipped none line = line
+flipped (some i) line = flipAt i line
 
 -- the first k bits of a line of n bits, and from there one and the same bit
 unfoldable pub filled : ℕ → Bool → ℕ → List Bool → List Bool
@@ -29,12 +26,12 @@ filled k fill n line = take k line ++ replicate (n - k) fill
 
 -- a message suffers one of these
 pub data Damage : Type 0 where
-  -- unseen: the card sees no bit, and the controller reads all zeros or all ones
+  -- unseen: the card is not selected and sees no bit, and the controller reads all zeros or all ones
   Unseen : Bool → Damage
   -- cut: the card sees the first k bits and a release, and the controller reads all zero or all one bits from there
   Cut : ℕ → Bool → Damage
   -- flipped: at most one bit on the way to the card, and at most one on the way back
-  Noisy : Noise → Noise → Damage
+  Flipped : AtMostOne → AtMostOne → Damage
 
 abbrev pub undamaged : Damage
-undamaged = Noisy calm calm
+undamaged = Flipped none none

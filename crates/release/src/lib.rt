@@ -18,6 +18,7 @@ use judge::Bases;
 use rules::refusal;
 use token::command::Command;
 use token::response::Status;
+use token::response::any_set;
 
 const RESET: u8 = rules::RESET.code;
 
@@ -184,7 +185,7 @@ fn end(card: Card, memory: &mut [u16], left: u8) -> Card
         return with_message(card, empty_message(false));
     }
     let status = verdict_of(card, left);
-    if judge::any_set(status) {
+    if any_set(status) {
         return note(card, status);
     }
     if token_of(card).fields().code == rules::WRITE.code {

@@ -9,10 +9,10 @@ use borrow.Author.Tests.{le-leb}
 use lib.ListN.{length, take, drop, getD, length-append, length-drop, take-append-drop}
 use lib.Seq.{drop-cons, drop-drop, take-at, drop-at, length-take-le}
 use Rattle.card.specs.declared.Card.{Card}
-use Rattle.replay.specs.Lines.{lineText, lineRoom, lineEnd, linePut}
+use Rattle.lines.specs.Lines.{lineText, lineRoom, lineEnd, linePut}
 use Rattle.replay.specs.Replay.{Run, ran, behind, runOf, over, replayed, replayedMemory}
-use Rattle.replay.specs.declared.lines.Line.{Line}
-use Rattle.replay.proofs.Laws.{text-short}
+use Rattle.lines.specs.declared.Line.{Line}
+use Rattle.lines.proofs.Laws.{text-short}
 
 pub record Going (c₀ : Card) (memory₀ records buffer₀ : List ℕ) (c : Card) (memory buffer : List ℕ) (place k : ℕ) : Type 0 where
   pub done : runOf c₀ memory₀ records ≡ behind (take place buffer) (runOf c memory (drop (4 * k) records))

@@ -1,3 +1,2 @@
 pub mod Going
-pub mod Laws
 pub mod Unique

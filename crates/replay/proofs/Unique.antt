@@ -2,20 +2,8 @@
 -- Assumes nothing.
 use mathlib.Core.Path.{_≡_, sym, _∙_}
 use denote.Ref.{now}
-use Rattle.replay.proofs.lines.line_text.Reads as line-text
-use Rattle.replay.proofs.lines.put_line.Reads as put-line
-use Rattle.replay.proofs.lines.time_text.Reads as time-text
 use Rattle.replay.proofs.play.Reads as play
 use Rattle.replay.proofs.replay.Reads as replay
-
-pub one-line-text : (κs : _) (a : _) (r s : _) (e f : _) → line-text.Post κs a r e → line-text.Post κs a s f → r ≡ s
-one-line-text κs a r s e f p q = p ∙ sym q
-
-pub one-put-line : (κs : _) (a : _) (r s : _) (e f : _) → put-line.Post κs a r e → put-line.Post κs a s f → (r ≡ s) × (now (e .0) ≡ now (f .0))
-one-put-line κs a r s e f p q = (p .0 ∙ sym (q .0), p .1 ∙ sym (q .1))
-
-pub one-time-text : (κs : _) (a : _) (r s : _) (e f : _) → time-text.Post κs a r e → time-text.Post κs a s f → r ≡ s
-one-time-text κs a r s e f p q = p ∙ sym q
 
 pub one-replay : (κs : _) (a : _) (r s : _) (e f : _) → replay.Post κs a r e → replay.Post κs a s f → (r ≡ s) × (now (e .1 .0) ≡ now (f .1 .0))
 one-replay κs a r s e f p q = (p .0 ∙ sym (q .0), p .1 ∙ sym (q .1))

@@ -7,11 +7,11 @@ use lib.ListN.{length, drop}
 use Rattle.rules.specs.Refusals as refusal
 use Rattle.card.specs.Card.{selected, moduleSet, exchanged, released, memoryAfter}
 use Rattle.card.specs.declared.Card.{Card}
-use Rattle.replay.specs.Lines.{lineText}
+use Rattle.lines.specs.Lines.{lineText}
 use Rattle.replay.specs.declared.Played.{Played}
 use Rattle.replay.specs.declared.Replayed.{Replayed}
-use Rattle.replay.specs.declared.lines.Line.{Line}
-use Rattle.replay.specs.declared.lines.Line.the-variants.{Selected, Taken, Released, ModuleSet, Refused}
+use Rattle.lines.specs.declared.Line.{Line}
+use Rattle.lines.specs.declared.Line.the-variants.{Selected, Taken, Released, ModuleSet, Refused}
 
 -- a card and the line of an operation: its own, or `E` and the refusal
 abbrev pub said : ℕ → Card → Line → Replayed

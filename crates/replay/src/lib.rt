@@ -5,9 +5,6 @@ ghost use lib.ListN.{length};
 ghost use Rattle.replay.specs.Replay.{onSelect, onWord, onRelease, moduleState, onModule, replayed, replayedMemory, over, runOf, ranAnswer, played, playedMemory, playedBuffer};
 ghost use Rattle.card.specs.Card.{memoryAfter};
 ghost use Rattle.replay.specs.Replay;
-
-pub mod lines;
-
 use card::Card;
 use lines::Line;
 use rules::refusal;

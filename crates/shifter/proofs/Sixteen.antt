@@ -11,10 +11,20 @@ use lib.Dec.{eqb}
 use lib.ListN.{length, replicate}
 use Rattle.crc.specs.Bits.{bits, digit, number}
 use Rattle.crc.proofs.Digits.{number-lt}
-use Rattle.shifter.specs.Shifter.{cleared, current, joined, turn, step, answers, after, leftOver}
+use Rattle.shifter.specs.Shifter.{cleared, current, joined, sentBit, step, leftOver}
 use Rattle.shifter.specs.declared.Sent.{Sent}
 use Rattle.shifter.specs.declared.Shifter.{Shifter}
 use Rattle.shifter.specs.declared.Step.{Step}
+
+-- ---- bit after bit. `nexts i` is the card's next word as it stands at bit i.
+
+unfoldable pub answers : Shifter → (ℕ → ℕ) → List Bool → List Sent
+answers s nexts [] = []
+answers s nexts (bit ∷ more) = step s (nexts 0) bit .answer ∷ answers (step s (nexts 0) bit .shifter) (λ i. nexts (suc i)) more
+
+unfoldable pub after : Shifter → (ℕ → ℕ) → List Bool → Shifter
+after s nexts [] = s
+after s nexts (bit ∷ more) = after (step s (nexts 0) bit .shifter) (λ i. nexts (suc i)) more
 
 -- ---- numbers
 
@@ -39,7 +49,7 @@ module _ (s : Shifter) (next w : ℕ) (same : current s next ≡ w) (bit : Bool)
         shifter = record { count = s .count + 1; taken = joined s bit; sending = w };
         answer = record { refusal = 0; bit = eqb (w / 2 ^ (15 - s .count) % 2) 1; complete = false; word = 0 };
       }
-  unfolding step turn
+  unfolding step sentBit
   step-within h = rw (le-ltb 15 (s .count) (omega arith), ne-eqb (s .count) 15 (λ e. omega arith), same)
 
   pub step-last : s .count ≡ 15
@@ -47,7 +57,7 @@ module _ (s : Shifter) (next w : ℕ) (same : current s next ≡ w) (bit : Bool)
         shifter = cleared;
         answer = record { refusal = 0; bit = eqb (w / 2 ^ 0 % 2) 1; complete = true; word = joined s bit };
       }
-  unfolding step turn
+  unfolding step sentBit
   step-last h = rw (le-ltb 15 (s .count) (omega arith), eq-eqb (s .count) 15 h, same, h)
 
 -- ---- the bits of a word
@@ -113,10 +123,6 @@ sixteen s nexts line none long =
       refusals = e .refusals;
       clear = e .clear;
     }
-
--- from the shifter that select leaves
-pub sixteen-cleared : (nexts : ℕ → ℕ) (line : List Bool) → length line ≡ 16 → Exchanged (nexts 0) line (answers cleared nexts line) (after cleared nexts line)
-sixteen-cleared nexts line long = sixteen cleared nexts line refl long
 
 -- ---- fewer bits
 

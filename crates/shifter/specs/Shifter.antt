@@ -1,13 +1,11 @@
 -- The bit shifter between pin and card: one bit in and one bit out. `count` bits of the word `taken` have come; `sending` is the word that the card sends meanwhile, whole.
 -- A refusal gives its number, the shifter it was given, no bit and no word.
-use Prim.Native.Nat.{ℕ, suc, _+_, _-_, _*_, _/_, _%_, _^_}
+use Prim.Native.Nat.{ℕ, _+_, _-_, _*_, _/_, _%_, _^_}
 use mathlib.Core.Bool.{Bool, true, false, cond}
-use mathlib.Core.List.{List, [], _∷_}
 use lib.Dec.{eqb, ltb}
 use Rattle.crc.specs.Bits.{digit}
 use Rattle.rules.specs.Refusals as refusal
 use Rattle.shifter.specs.declared.LeftOver.{LeftOver}
-use Rattle.shifter.specs.declared.Sent.{Sent}
 use Rattle.shifter.specs.declared.Shifter.{Shifter}
 use Rattle.shifter.specs.declared.Step.{Step}
 
@@ -24,21 +22,21 @@ unfoldable pub joined : Shifter → Bool → ℕ
 joined s bit = (s .taken * 2 + digit bit) % 65536
 
 -- the bit sent: bit 15 of the word at count 0, bit 0 at count 15
-unfoldable pub turn : Shifter → ℕ → Bool
-turn s next = eqb (current s next / 2 ^ (15 - s .count) % 2) 1
+unfoldable pub sentBit : Shifter → ℕ → Bool
+sentBit s next = eqb (current s next / 2 ^ (15 - s .count) % 2) 1
 
 -- a bit within a word
 abbrev pub within : Shifter → ℕ → Bool → Step
 within s next bit = record {
   shifter = record { count = s .count + 1; taken = joined s bit; sending = current s next };
-  answer = record { refusal = refusal.None; bit = turn s next; complete = false; word = 0 };
+  answer = record { refusal = refusal.None; bit = sentBit s next; complete = false; word = 0 };
 }
 
 -- the sixteenth completes the word and leaves the shifter clear
 abbrev pub completing : Shifter → ℕ → Bool → Step
 completing s next bit = record {
   shifter = cleared;
-  answer = record { refusal = refusal.None; bit = turn s next; complete = true; word = joined s bit };
+  answer = record { refusal = refusal.None; bit = sentBit s next; complete = true; word = joined s bit };
 }
 
 abbrev pub refused : Shifter → Step
@@ -58,13 +56,3 @@ unfoldable pub leftOver : Shifter → LeftOver
 leftOver s =
     cond (ltb 15 (s .count)) (record { refusal = refusal.State; bits = 0 })
     (record { refusal = refusal.None; bits = s .count })
-
--- ---- bit after bit. `nexts i` is the card's next word as it stands at bit i.
-
-unfoldable pub answers : Shifter → (ℕ → ℕ) → List Bool → List Sent
-answers s nexts [] = []
-answers s nexts (bit ∷ more) = step s (nexts 0) bit .answer ∷ answers (step s (nexts 0) bit .shifter) (λ i. nexts (suc i)) more
-
-unfoldable pub after : Shifter → (ℕ → ℕ) → List Bool → Shifter
-after s nexts [] = s
-after s nexts (bit ∷ more) = after (step s (nexts 0) bit .shifter) (λ i. nexts (suc i)) more

@@ -14,6 +14,13 @@ pub struct Shifter {
     pub sending: u16,
 }
 
+// As select leaves it.
+pub const CLEARED: Shifter = Shifter {
+    count: 0,
+    taken: 0,
+    sending: 0,
+};
+
 // A refusal's number, or 0, the bit sent, and whether a word is complete, and which.
 pub struct Sent {
     pub refusal: u8,
@@ -85,11 +92,7 @@ pub fn shifted(shifter: Shifter, next: u16, bit: bool) -> Step
     let sent = bit_of(sending, 15 - count);
     if count == 15 {
         return Step {
-            shifter: Shifter {
-                count: 0,
-                taken: 0,
-                sending: 0,
-            },
+            shifter: CLEARED,
             answer: Sent {
                 refusal: refusal::NONE,
                 bit: sent,

@@ -8,7 +8,7 @@ use borrow.Author.Tests.{ltb-false, le-leb}
 use lib.Dec.{eqb, ltb}
 use lib.ListN.{length}
 use Rattle.token.specs.Command.{commandFits}
-use Rattle.controller.specs.Messages.{layRefusal, bufferAfter}
+use Rattle.controller.specs.Messages.{buildRefusal, bufferAfter}
 use Rattle.controller.specs.Sure.{commandAt, isAsk, writeCommand, outOfState, askRefusal, askedBuffer}
 use Rattle.controller.specs.declared.SureWrite.{SureWrite}
 
@@ -41,7 +41,7 @@ write-fits s h =
 
 -- in turn, asking is refused as building is
 pub ask-refusal : (s : SureWrite) (count room : ℕ) → outOfState s ≡ false → isAsk (s .turn) ≡ true
-    → askRefusal s count room ≡ layRefusal (commandAt (writeCommand s) (s .turn)) count room
+    → askRefusal s count room ≡ buildRefusal (commandAt (writeCommand s) (s .turn)) count room
 unfolding askRefusal
 ask-refusal s count room inside turn = rw (inside, turn)
 
@@ -55,4 +55,4 @@ pub asked-buffer : (s : SureWrite) (block buffer : List ℕ) → outOfState s �
 unfolding askedBuffer bufferAfter
 asked-buffer s block buffer inside turn =
     rw (ask-refusal s (length block) (length buffer) inside turn)
-    (twice (eqb (layRefusal (commandAt (writeCommand s) (s .turn)) (length block) (length buffer)) 0) _ buffer)
+    (twice (eqb (buildRefusal (commandAt (writeCommand s) (s .turn)) (length block) (length buffer)) 0) _ buffer)

@@ -4,22 +4,22 @@ ghost use mathlib.Core.Bool.{true, false, cond, _&&_};
 ghost use lib.Dec.{eqb};
 ghost use lib.ListN.{length};
 ghost use Rattle.token.specs.Command.{commandFits, commandFirst, commandSecond};
-ghost use Rattle.controller.specs.Messages.{laid, bufferAfter};
-ghost use Rattle.controller.specs.Sure.{commandAt, isAsk, isGive, isClean, passes, confirms, turnAfter, writeCommand, withTurn, startedGives, started, outOfState, asked, askedBuffer, given, verdictOf};
+ghost use Rattle.controller.specs.Messages.{messageBuilt, bufferAfter};
+ghost use Rattle.controller.specs.Sure.{commandAt, isAsk, isGive, passes, confirms, turnAfter, writeCommand, withTurn, startedGives, started, outOfState, asked, askedBuffer, given, verdictOf};
 use controller::Asked;
 use controller::Given;
-use controller::Laid;
+use controller::MessageBuilt;
 use controller::Reading;
 use controller::Started;
 use controller::SureWrite;
 use controller::Verdict;
 use controller::answer::read_answer;
-use controller::message::lay;
+use controller::message::build;
 use rules::refusal;
 use token::command::Command;
 use token::command::CommandBuilt;
 use token::command::CommandToken;
-use token::response::Status;
+use token::response::any_set;
 
 // The turns: each message is asked for, and then the words that came back with it are given.
 const ASK_FIRST: u8 = 0;
@@ -69,24 +69,18 @@ fn is_give(turn: u8) -> bool
 }
 
 // Lays the message that a turn asks for.
-fn lay_turn(middle: Command, turn: u8, block: &[u16], buffer: &mut [u16]) -> Laid
-    ensures { λ r. ⌜ r ≡ laid (commandAt middle turn) (now (block .entry)) (length (now (buffer .entry))) ⌝ }
+fn build_turn(middle: Command, turn: u8, block: &[u16], buffer: &mut [u16]) -> MessageBuilt
+    ensures { λ r. ⌜ r ≡ messageBuilt (commandAt middle turn) (now (block .entry)) (length (now (buffer .entry))) ⌝ }
     ensures { λ _. ⌜ now (buffer .exit) ≡ bufferAfter (commandAt middle turn) (now (block .entry)) (now (buffer .entry)) ⌝ }
 {
     let command = command_at(middle, turn);
-    lay(
+    build(
         command.code as u32,
         command.length as u32,
         command.sub_address as u32,
         block,
         buffer,
     )
-}
-
-fn is_clean(status: Status) -> bool
-    ensures { λ r. ⌜ r ≡ isClean status ⌝ }
-{
-    !(status.me | status.ar | status.ic)
 }
 
 // Whether two words are the token of a command.
@@ -127,7 +121,7 @@ fn after_last(middle: Command, words: &[u16]) -> u8
     let Reading::Good(fields) = read_answer(words, READBACK.length as u32) else {
         return UNSURE;
     };
-    let sure = is_clean(fields.status) & is_token(middle, words[2], words[3]);
+    let sure = !any_set(fields.status) & is_token(middle, words[2], words[3]);
     if sure { DONE } else { UNSURE }
 }
 
@@ -199,17 +193,17 @@ fn ask_in_turn(state: SureWrite, block: &[u16], buffer: &mut [u16]) -> Asked
     ensures { λ r. ⌜ r ≡ asked state (now (block .entry)) (length (now (buffer .entry))) ⌝ }
     ensures { λ _. ⌜ now (buffer .exit) ≡ askedBuffer state (now (block .entry)) (now (buffer .entry)) ⌝ }
 {
-    let laid = lay_turn(write_command(state), state.turn, block, buffer);
-    if laid.refusal != refusal::NONE {
+    let built = build_turn(write_command(state), state.turn, block, buffer);
+    if built.refusal != refusal::NONE {
         return Asked {
-            refusal: laid.refusal,
+            refusal: built.refusal,
             words: 0,
             state,
         };
     }
     Asked {
         refusal: refusal::NONE,
-        words: laid.words,
+        words: built.words,
         state: with_turn(state, state.turn + 1),
     }
 }

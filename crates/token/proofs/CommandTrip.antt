@@ -2,13 +2,15 @@
 -- Assumes nothing.
 use Prim.Native.Nat.{ℕ, _/_, _%_, _≤_, _<_}
 use native.Mathlib.Omega.{arith}
-use mathlib.Core.Bool.{true}
+use mathlib.Core.Bool.{true, _&&_}
 use mathlib.Core.Path.{_≡_, ap, _∙_}
-use borrow.Author.Tests.{eq-eqb}
-use Rattle.token.specs.Command.{tokenOf, commandToken, commandFirst, commandUpper, commandSecond, commandMarks, goodCommand, commandFields, commandRead}
+use borrow.Author.Tests.{eq-eqb, leb-true}
+use lib.Dec.{leb}
+use Rattle.crc.proofs.Words.{crc4-lt}
+use Rattle.token.specs.Command.{tokenOf, commandToken, commandFits, commandFirst, commandUpper, commandSecond, commandMarks, goodCommand, commandFields, commandRead}
 use Rattle.token.specs.Marks.{at, withCheck, goodMarks}
 use Rattle.token.specs.declared.command.Command.{Command}
-use Rattle.token.proofs.Good.{good-command}
+use Rattle.token.proofs.Good.{both, good-command}
 use Rattle.token.proofs.Second.{peel, upper-kept, check-right, rebuilt}
 
 pub record CommandFits (f : Command) : Type 0 where
@@ -16,7 +18,24 @@ pub record CommandFits (f : Command) : Type 0 where
   pub length : f .length ≤ 63
   pub sub-address : f .«sub_address» ≤ 255
 
+-- the builder's test says so
+pub fields-fit : (f : Command) → commandFits f ≡ true → CommandFits f
+unfolding commandFits
+fields-fit f h =
+    let (front, sub) = both (leb (f .code) 63 && leb (f .length) 63) (leb (f .«sub_address») 255) h in
+    let (code, len) = both (leb (f .code) 63) (leb (f .length) 63) front in
+    record { code = leb-true (f .code) 63 code; length = leb-true (f .length) 63 len; sub-address = leb-true (f .«sub_address») 255 sub }
+
 module _ (f : Command) (fits : CommandFits f) where
+  -- its words are words
+  pub first-below : commandFirst f < 65536
+  unfolding commandFirst
+  first-below = omega (arith, fits)
+
+  pub second-below : commandSecond f < 65536
+  unfolding commandSecond withCheck commandUpper
+  second-below = omega (arith, fits, crc4-lt (commandFirst f) (commandUpper f))
+
   command-empty : commandUpper f % 16 ≡ 0
   unfolding commandUpper
   command-empty = omega arith
@@ -47,10 +66,6 @@ module _ (f : Command) (fits : CommandFits f) where
   command-reads-back = rw (command-good, command-fields)
 
 module _ (first second : ℕ) (word : first < 65536) (word₂ : second < 65536) (good : goodCommand first second ≡ true) where
-  pub command-fields-fit : CommandFits (commandFields first second)
-  unfolding commandFields
-  command-fields-fit = record { code = omega arith; length = omega arith; sub-address = omega arith }
-
   pub command-first-rebuilt : commandFirst (commandFields first second) ≡ first
   unfolding commandFields commandFirst
   command-first-rebuilt = let g = good-command first second good in omega (arith, peel first 0 6, peel first 6 2, peel first 8 6, peel first 14 2)

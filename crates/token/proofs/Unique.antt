@@ -19,6 +19,7 @@ use Rattle.token.specs.declared.response.ResponseBuilt.the-variants as r
 use Rattle.token.specs.declared.response.ResponseRead.{ResponseRead}
 use Rattle.token.specs.declared.response.ResponseRead.the-variants as response-read
 use Rattle.token.proofs.marks.Marks.good.Reads as marks-good
+use Rattle.token.proofs.response.any_set.Reads as any-set
 use Rattle.token.proofs.command.CommandToken.new.Reads as command-new
 use Rattle.token.proofs.command.CommandToken.marks.Reads as command-marks
 use Rattle.token.proofs.command.CommandToken.fields.Reads as command-fields
@@ -82,3 +83,6 @@ one-response-fields κs a r s e f p q = p ∙ sym q
 
 pub one-response-read : (κs : _) (a : _) (r s : _) (e f : _) → response-read-reads.Post κs a r e → response-read-reads.Post κs a s f → r ≡ s
 one-response-read κs a r s e f p q = response-read-one r s (p ∙ sym q)
+
+pub one-any-set : (κs : _) (a : _) (r s : _) (e f : _) → any-set.Post κs a r e → any-set.Post κs a s f → r ≡ s
+one-any-set κs a r s e f p q = p ∙ sym q

@@ -1,7 +1,7 @@
 -- The response token. Word 1: bits 15-14 = 10, 13 STF, 12 ME, 11 AR, 10 IC, 9-4 zero, 3-0 module state.
 -- Word 2: bits 15-4 are hex 878, 3-0 CRC-4. Of these, 15-14 are the prefix and 13-4 count as spare.
 use Prim.Native.Nat.{ℕ, _+_, _*_, _^_}
-use mathlib.Core.Bool.{Bool, true, false, cond, _&&_}
+use mathlib.Core.Bool.{Bool, true, false, cond, _&&_, _||_}
 use lib.Dec.{eqb, leb}
 use Rattle.crc.specs.Bits.{digit}
 use Rattle.rules.specs.Refusals as refusal
@@ -22,6 +22,9 @@ status me ar ic = record { me = me; ar = ar; ic = ic }
 -- ME, AR and IC are 0
 abbrev pub clean : Status
 clean = status false false false
+
+unfoldable pub anySet : Status → Bool
+anySet s = s .me || s .ar || s .ic
 
 abbrev pub response : Bool → Status → ℕ → Response
 response stf bits state = record { stf = stf; status = bits; «module_state» = state }

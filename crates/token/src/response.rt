@@ -2,7 +2,7 @@
 ghost use mathlib.Core.Path.{_≡_};
 ghost use Prim.Native.Nat.{_≤_};
 ghost use Rattle.crc.specs.Bits.{digit};
-ghost use Rattle.token.specs.Response.{responseBuiltGives, responseBuilt, responseMarks, responseFields, responseReadGives, responseRead};
+ghost use Rattle.token.specs.Response.{anySet, responseBuiltGives, responseBuilt, responseMarks, responseFields, responseReadGives, responseRead};
 use crate::marks::Marks;
 use crate::marks::with_check;
 use crate::marks::with_marks;
@@ -37,6 +37,13 @@ pub enum ResponseBuilt {
 pub enum ResponseRead {
     Good(Response),
     NotGood,
+}
+
+// Whether some bit is set.
+pub fn any_set(status: Status) -> bool
+    ensures { λ r. ⌜ r ≡ anySet status ⌝ }
+{
+    status.me | status.ar | status.ic
 }
 
 fn digit_of(bit: bool) -> u16

@@ -3,49 +3,36 @@
 use card::Card;
 use libc::STDIN_FILENO;
 use libc::STDOUT_FILENO;
-use replay::lines::Line;
+use lines::Line;
 use rules::refusal;
 
-// Writes the first `count` bytes of a buffer.
-fn write_front(buffer: &[u8], count: usize) {
-    if count <= buffer.len() {
-        io::write_all(STDOUT_FILENO, &buffer[..count]);
-    }
-}
-
 // Plays a part of the input, and writes its lines.
-fn play(card: Card, memory: &mut [u16], records: &[u8], lines: &mut [u8]) -> Card {
-    let played = replay::play(card, memory, records, lines);
-    write_front(lines, played.written);
+fn play(card: Card, memory: &mut [u16], records: &[u8], buffer: &mut [u8]) -> Card {
+    let played = replay::play(card, memory, records, buffer);
+    output::write_front(buffer, played.written);
     played.card
-}
-
-// The line of an unfinished last record.
-fn write_unfinished() {
-    let text = replay::lines::line_text(Line::Refused(refusal::RECORD));
-    let bytes = text.bytes;
-    write_front(&bytes, text.count);
 }
 
 fn main() {
     let mut memory = [0u16; 256];
     // The lines of 4,096 records need 49,152 bytes.
     let mut input = [0u8; 16384];
-    let mut lines = io::large_buffer();
+    let mut buffer = io::large_buffer();
     let powered = card::power_up(256);
     let mut state = powered.card;
     let mut turns = u64::MAX;
     while turns > 0 {
         // Fewer bytes than the buffer has are the last of the input.
         let got = io::read_full(STDIN_FILENO, &mut input);
-        state = play(state, &mut memory, &input[..got], &mut lines);
+        state = play(state, &mut memory, &input[..got], &mut buffer);
+        // An unfinished last record.
         if got % 4 != 0 {
-            write_unfinished();
+            output::write_line(Line::Refused(refusal::RECORD));
         }
         if got < 16384 {
             break;
         }
         turns -= 1;
     }
-    io::write_all(STDOUT_FILENO, &replay::lines::time_text(state.time));
+    io::write_all(STDOUT_FILENO, &lines::time_text(state.time));
 }

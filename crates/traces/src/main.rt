@@ -4,25 +4,13 @@ ghost use Prim.Native.Nat.{_≤_};
 use card::Card;
 use libc::STDIN_FILENO;
 use libc::STDOUT_FILENO;
-use replay::lines::Line;
+use lines::Line;
 use rules::refusal;
 
-fn write_front(buffer: &[u8], count: usize) {
-    if count <= buffer.len() {
-        io::write_all(STDOUT_FILENO, &buffer[..count]);
-    }
-}
-
-fn play(card: Card, memory: &mut [u16], records: &[u8], lines: &mut [u8]) -> Card {
-    let played = replay::play(card, memory, records, lines);
-    write_front(lines, played.written);
+fn play(card: Card, memory: &mut [u16], records: &[u8], buffer: &mut [u8]) -> Card {
+    let played = replay::play(card, memory, records, buffer);
+    output::write_front(buffer, played.written);
     played.card
-}
-
-fn write_unfinished() {
-    let text = replay::lines::line_text(Line::Refused(refusal::RECORD));
-    let bytes = text.bytes;
-    write_front(&bytes, text.count);
 }
 
 fn wide(byte: u8) -> usize
@@ -39,22 +27,22 @@ fn size_of(high: u8, low: u8) -> usize
 }
 
 // One trace, whose bytes are read into a part of the buffer.
-fn run(count: usize, memory: &mut [u16], input: &mut [u8], lines: &mut [u8]) {
+fn run(count: usize, memory: &mut [u16], input: &mut [u8], buffer: &mut [u8]) {
     if input.len() < count {
         return;
     }
     io::read_full(STDIN_FILENO, &mut input[..count]);
     let powered = card::power_up(256);
-    let after = play(powered.card, memory, &input[..count], lines);
+    let after = play(powered.card, memory, &input[..count], buffer);
     if count % 4 != 0 {
-        write_unfinished();
+        output::write_line(Line::Refused(refusal::RECORD));
     }
-    io::write_all(STDOUT_FILENO, &replay::lines::time_text(after.time));
+    io::write_all(STDOUT_FILENO, &lines::time_text(after.time));
 }
 
 fn main() {
     let mut input = [0u8; 65536];
-    let mut lines = [0u8; 196608];
+    let mut buffer = [0u8; 196608];
     let mut number: u64 = 0;
     while number < u64::MAX {
         let mut head = [0u8; 4];
@@ -70,7 +58,7 @@ fn main() {
             size_of(head[2], head[3]),
             &mut memory,
             &mut input,
-            &mut lines,
+            &mut buffer,
         );
     }
 }

@@ -1,11 +1,11 @@
 -- `exchange::payload_word` meets its contract: the tests say which case holds.
 -- Assumes nothing.
 use Rattle.token.specs.declared.command.Command.{Command}
+use Rattle.token.specs.Response.{anySet}
 use Rattle.card.proofs.Laws.{heard-status, heard-fields}
 use Rattle.card.specs.Sending.{word1, word2, fields, heardStatus, passedWord, payloadWord}
 use mathlib.Core.Path.{_≡_, sym, ap, _∙_}
 use mathlib.Core.Bool.{true, false}
-use Rattle.judge.specs.Judge.{anySet}
 use Rattle.judge.proofs.Laws.{token-passed, read-inside}
 use Rattle.exchange.proofs.payload_word.Statement.{statement}
 use Rattle.exchange.proofs.payload_word.Tie as tie

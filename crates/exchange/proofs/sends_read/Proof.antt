@@ -9,10 +9,10 @@ use Rattle.card.specs.Sending.{fields}
 use Rattle.card.proofs.Laws.{heard-status, heard-fields}
 use Rattle.card.specs.Sending.{heardStatus, sendsRead}
 use Rattle.rules.proofs.Tests.{tests}
+use Rattle.token.specs.Response.{anySet}
 use mathlib.Core.Path.{_≡_, sym, ap, _∙_}
 use mathlib.Core.Bool.{true, false}
 use borrow.Author.Tests.{le-leb}
-use Rattle.judge.specs.Judge.{anySet}
 use borrow.Author.Needs.{needs}
 use Rattle.exchange.proofs.sends_read.Statement.{statement}
 use Rattle.exchange.proofs.sends_read.Tie as tie

@@ -3,7 +3,8 @@
 use Prim.Native.Nat.{_-_}
 use native.Mathlib.Omega.{arith}
 use lib.Seq.{take-all}
-use Rattle.judge.specs.Judge.{anySet, step4, step5, firstFailing, endStatus}
+use Rattle.token.specs.Response.{anySet}
+use Rattle.judge.specs.Judge.{step4, step5, firstFailing, endStatus}
 use mathlib.Core.Path.{_≡_, sym, ap, _∙_}
 use mathlib.Core.Bool.{true, false}
 use lib.ListN.{length, take, drop, length-drop}

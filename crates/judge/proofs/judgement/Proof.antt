@@ -1,10 +1,11 @@
 -- `judge::judgement` meets its contract: the tests say which case holds.
 -- Assumes nothing.
-use Rattle.judge.specs.Judge.{anySet, firstFailing, tokenStatus, endStatus, judgement}
+use Rattle.judge.specs.Judge.{firstFailing, tokenStatus, endStatus, judgement}
 use Rattle.token.specs.declared.command.Command.{Command}
 use mathlib.Core.Path.{_≡_, sym, ap, _∙_}
 use mathlib.Core.Bool.{true, false}
 use Rattle.rules.proofs.Tests.{tests}
+use Rattle.token.specs.Response.{anySet}
 use native.Mathlib.Omega.{arith}
 use borrow.Author.Tests.{le-ltb}
 use lib.Dec.{ltb}

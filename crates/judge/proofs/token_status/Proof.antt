@@ -1,11 +1,12 @@
 -- `judge::token_status` meets its contract: the tests say which case holds.
 -- Assumes nothing.
-use Rattle.judge.specs.Judge.{anySet, firstFailing, step1, step2, step3, tokenStatus}
+use Rattle.judge.specs.Judge.{firstFailing, step1, step2, step3, tokenStatus}
 use mathlib.Core.Path.{_≡_, sym, ap, _∙_}
 use mathlib.Core.Bool.{true, false}
 use Rattle.token.specs.declared.command.Command.{Command}
 use Rattle.token.specs.Command.{commandMarks, commandFields}
 use Rattle.rules.specs.Rules.{ruleOf}
+use Rattle.token.specs.Response.{anySet}
 use Rattle.judge.proofs.token_status.Statement.{statement}
 use Rattle.judge.proofs.token_status.Tie as tie
 

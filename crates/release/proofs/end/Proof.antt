@@ -4,8 +4,8 @@ use mathlib.Core.Bool.{true, false}
 use mathlib.Core.Path.{_≡_, refl, sym, ap, _∙_}
 use borrow.Author.Tests.{eq-eqb, ne-eqb}
 use Rattle.rules.specs.Rules.{write}
-use Rattle.judge.specs.Judge.{anySet}
 use Rattle.token.specs.declared.command.Command.{Command}
+use Rattle.token.specs.Response.{anySet}
 use Rattle.card.specs.Acting.{silent, verdict, ended, writes, endedMemory}
 use Rattle.card.specs.Sending.{fields}
 use Rattle.card.proofs.Laws.{heard-fields, accepted-tick, accepted-write}

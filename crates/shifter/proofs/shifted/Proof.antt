@@ -3,7 +3,7 @@
 use native.Mathlib.Omega.{arith}
 use borrow.Author.Needs.{needs}
 use borrow.Author.Tests.{le-ltb, lt-ltb, eq-eqb, ne-eqb}
-use Rattle.shifter.specs.Shifter.{step, turn}
+use Rattle.shifter.specs.Shifter.{step, sentBit}
 use Rattle.shifter.proofs.shifted.Statement.{statement}
 use Rattle.shifter.proofs.shifted.Tie as tie
 
@@ -12,7 +12,7 @@ unfolding step
 returns c = simp (lt-ltb 15 (c .before .args .shifter .count) (omega arith))
 
 returns-2 : tie.Need-returns-2
-unfolding step turn
+unfolding step sentBit
 returns-2 c =
     let count = c .before .before .before .before .before .args .shifter .count in
     simp (
@@ -24,7 +24,7 @@ returns-2 c =
     )
 
 returns-3 : tie.Need-returns-3
-unfolding step turn
+unfolding step sentBit
 returns-3 c =
     let count = c .before .before .before .before .before .args .shifter .count in
     simp (

@@ -2,15 +2,16 @@
 -- Assumes nothing.
 use Rattle.token.specs.declared.response.Response.{Response}
 use native.Mathlib.Omega.{arith}
-use mathlib.Core.Bool.{_&&_, and-assoc}
+use mathlib.Core.Bool.{not, _&&_, and-assoc}
 use mathlib.Core.Path.{_≡_, sym, ap, _∙_}
 use borrow.Author.Needs.{needs}
 use lib.Dec.{eqb}
 use lib.ListN.{getD}
 use Rattle.rules.specs.Rules.{messageWords}
 use Rattle.token.specs.Command.{commandFirst, commandSecond}
+use Rattle.token.specs.Response.{anySet}
 use Rattle.controller.specs.Answers.{answerRead}
-use Rattle.controller.specs.Sure.{isClean, readGood, confirms}
+use Rattle.controller.specs.Sure.{readGood, confirms}
 use Rattle.controller.proofs.AnswerLaws.{GoodAnswer, answer-good, answer-not-good}
 use Rattle.sure.proofs.after_last.Statement.{statement}
 use Rattle.sure.proofs.after_last.Tie as tie
@@ -34,15 +35,15 @@ shared-slice-read-is-token-2 c = omega (arith, good (c .before .before .before .
 
 judged : (p : tie.After-is-token)
     → let a = p .before .before .before .before .before .before .before .before .before .before .args in
-    confirms (a .middle) (a .words .now) ≡ (p .before .before .before .is-clean .result && p .is-token .result)
+    confirms (a .middle) (a .words .now) ≡ (not (p .before .before .before .any-set .result) && p .is-token .result)
 unfolding confirms readGood
 judged p =
     let a = p .before .before .before .before .before .before .before .before .before .before .args in
     let known = good (p .before .before .before .before .before) in
-    let clean : p .before .before .before .is-clean .result ≡ isClean (answerRead 2 (a .words .now) .fields .status)
-    = p .before .before .before .is-clean .ensures ∙ ap (λ (f : Response). isClean (f .status)) (sym (known .fields)) in
-    rw (known .shown, p .is-token .ensures, clean)
-    (and-assoc (isClean (answerRead 2 (a .words .now) .fields .status)) (eqb (getD (a .words .now) 2 0) (commandFirst (a .middle))) (eqb (getD (a .words .now) 3 0) (commandSecond (a .middle))))
+    let set : p .before .before .before .any-set .result ≡ anySet (answerRead 2 (a .words .now) .fields .status)
+    = p .before .before .before .any-set .ensures ∙ ap (λ (f : Response). anySet (f .status)) (sym (known .fields)) in
+    rw (known .shown, p .is-token .ensures, set)
+    (and-assoc (not (anySet (answerRead 2 (a .words .now) .fields .status))) (eqb (getD (a .words .now) 2 0) (commandFirst (a .middle))) (eqb (getD (a .words .now) 3 0) (commandSecond (a .middle))))
 
 returns-2 : tie.Need-returns-2
 returns-2 c = rw (judged (c .before) ∙ c .if1 .taken)

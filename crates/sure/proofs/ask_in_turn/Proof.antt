@@ -1,4 +1,4 @@
--- `sure::ask_in_turn` meets its contract: in turn, it is refused as the builder refuses, and else the message is laid.
+-- `sure::ask_in_turn` meets its contract: in turn, it is refused as the builder refuses, and else the message is built.
 -- Assumes nothing.
 use native.Mathlib.Omega.{arith}
 use mathlib.Core.Path.{_≡_, sym, ap, _∙_}
@@ -6,37 +6,37 @@ use borrow.Author.Needs.{needs}
 use borrow.Author.Tests.{ne-eqb}
 use lib.ListN.{length}
 use Rattle.token.specs.declared.command.Command.{Command}
-use Rattle.controller.specs.Messages.{layRefusal, laid}
+use Rattle.controller.specs.Messages.{buildRefusal, messageBuilt}
 use Rattle.controller.specs.Sure.{commandAt, writeCommand, askRefusal, asked, askedBuffer}
-use Rattle.controller.specs.declared.Laid.{Laid}
+use Rattle.controller.specs.declared.MessageBuilt.{MessageBuilt}
 use Rattle.sure.proofs.TurnLaws.{in-state, ask-refusal, asked-buffer}
 use Rattle.sure.proofs.ask_in_turn.Statement.{statement}
 use Rattle.sure.proofs.ask_in_turn.Tie as tie
 
--- where a message was laid, the call's start and the command of its turn
-abbrev start : tie.After-lay-turn → tie.Start
+-- where a message was built, the call's start and the command of its turn
+abbrev start : tie.After-build-turn → tie.Start
 start p = p .before .before .before .before .before
 
 abbrev sent : tie.Start → Command
 sent s = commandAt (writeCommand (s .args .state)) (s .args .state .turn)
 
-made : (p : tie.After-lay-turn)
-    → p .lay-turn .result ≡ laid (sent (start p)) (start p .args .block .now) (length (start p .args .buffer .now))
-made p = rw (p .before .before .write-command .ensures) at (p .lay-turn .ensures .0)
+made : (p : tie.After-build-turn)
+    → p .build-turn .result ≡ messageBuilt (sent (start p)) (start p .args .block .now) (length (start p .args .buffer .now))
+made p = rw (p .before .before .write-command .ensures) at (p .build-turn .ensures .0)
 
 -- its refusal is the number that asking is refused by
-number : (p : tie.After-lay-turn)
-    → p .lay-turn .result .refusal ≡ askRefusal (start p .args .state) (length (start p .args .block .now)) (length (start p .args .buffer .now))
-unfolding laid
+number : (p : tie.After-build-turn)
+    → p .build-turn .result .refusal ≡ askRefusal (start p .args .state) (length (start p .args .block .now)) (length (start p .args .buffer .now))
+unfolding messageBuilt
 number p =
     let s = start p in
-    ap (λ (l : Laid). l .refusal) (made p) ∙ sym (ask-refusal (s .args .state) _ _ (s .pre .0) (s .pre .1))
+    ap (λ (l : MessageBuilt). l .refusal) (made p) ∙ sym (ask-refusal (s .args .state) _ _ (s .pre .0) (s .pre .1))
 
-buffer : (p : tie.After-lay-turn)
-    → p .lay-turn .last .1 .1 .1 .0 ≡ askedBuffer (start p .args .state) (start p .args .block .now) (start p .args .buffer .now)
+buffer : (p : tie.After-build-turn)
+    → p .build-turn .last .1 .1 .1 .0 ≡ askedBuffer (start p .args .state) (start p .args .block .now) (start p .args .buffer .now)
 buffer p =
     let s = start p in
-    rw (p .before .before .write-command .ensures) at (p .lay-turn .ensures .1)
+    rw (p .before .before .write-command .ensures) at (p .build-turn .ensures .1)
     ∙ sym (asked-buffer (s .args .state) (s .args .block .now) (s .args .buffer .now) (s .pre .0) (s .pre .1))
 
 returns : tie.Need-returns
@@ -51,11 +51,11 @@ add-with-turn c =
     omega (arith, in-state (s .args .state) (s .pre .0))
 
 returns-2 : tie.Need-returns-2
-unfolding asked laid
+unfolding asked messageBuilt
 returns-2 c =
     let p = c .before .before .before .before .before .before in
     let s = start p in
-    let none : layRefusal (sent s) (length (s .args .block .now)) (length (s .args .buffer .now)) ≡ 0 = sym (ap (λ (l : Laid). l .refusal) (made p)) ∙ c .before .before .if1 .left in
+    let none : buildRefusal (sent s) (length (s .args .block .now)) (length (s .args .buffer .now)) ≡ 0 = sym (ap (λ (l : MessageBuilt). l .refusal) (made p)) ∙ c .before .before .if1 .left in
     (simp (← number p, made p, none, c .with-turn .ensures), buffer p)
 
 pub ask-in-turn-spec : {M : Type 1} → statement M

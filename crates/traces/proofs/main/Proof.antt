@@ -8,10 +8,10 @@ use Rattle.traces.proofs.main.Statement.{statement}
 use Rattle.traces.proofs.main.Tie as tie
 
 abbrev Inv-loop : tie.InvT-loop
-Inv-loop input₀ lines₀ number₀ t6 t7 input lines number = (length input ≡ 65536) × (length lines ≡ 196608)
+Inv-loop input₀ buffer₀ number₀ t6 t7 input buffer number = (length input ≡ 65536) × (length buffer ≡ 196608)
 
 abbrev μ-loop : tie.MeasureT-loop
-μ-loop input₀ lines₀ number₀ t6 t7 input lines number = 18_446_744_073_709_551_615 - number
+μ-loop input₀ buffer₀ number₀ t6 t7 input buffer number = 18_446_744_073_709_551_615 - number
 
 pub main-spec : {M : Type 1} → statement M
 main-spec =

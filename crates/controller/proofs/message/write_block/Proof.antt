@@ -1,4 +1,4 @@
--- `controller::message::write_block` meets its contract: the words are laid, then one word more; an empty block has neither.
+-- `controller::message::write_block` meets its contract: the words are built, then one word more; an empty block has neither.
 -- Assumes nothing.
 use native.Mathlib.Omega.{arith}
 use borrow.Author.Needs.{needs}

@@ -4,7 +4,7 @@ use mathlib.Core.Path.{_∙_}
 use borrow.Author.Needs.{needs}
 use Rattle.token.specs.Command.{commandFirst, commandSecond}
 use Rattle.controller.specs.Messages.{payload, message}
-use Rattle.controller.proofs.MessageLaws.{message-laid}
+use Rattle.controller.proofs.MessageLaws.{message-over}
 use Rattle.controller.proofs.message.write_message.Statement.{statement}
 use Rattle.controller.proofs.message.write_message.Tie as tie
 
@@ -14,7 +14,7 @@ returns c =
     let a = c .before .before .before .before .before .before .before .before .before .before .args in
     c .before .before .write-after-token .ensures
     ∙ rw (c .before .before .before .before .before .before .write-token .ensures, c .before .before .before .before .before .before .before .before .before .before .pre .0)
-    (message-laid (commandFirst (a .fields)) (commandSecond (a .fields)) (payload (a .fields) (a .block .now)) (a .buffer .now))
+    (message-over (commandFirst (a .fields)) (commandSecond (a .fields)) (payload (a .fields) (a .block .now)) (a .buffer .now))
 
 pub write-message-spec : {M : Type 1} → statement M
 write-message-spec = tie.close (tie.spec (λ c κs. search needs) (λ c κs. search needs) (λ c. search needs) returns)

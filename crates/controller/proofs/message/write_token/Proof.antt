@@ -2,12 +2,12 @@
 -- Assumes nothing.
 use native.Mathlib.Omega.{arith}
 use borrow.Author.Needs.{needs}
-use Rattle.controller.proofs.MessageLaws.{token-laid}
+use Rattle.controller.proofs.MessageLaws.{token-over}
 use Rattle.controller.proofs.message.write_token.Statement.{statement}
 use Rattle.controller.proofs.message.write_token.Tie as tie
 
 returns : tie.Need-returns
-returns c = token-laid (c .args .buffer .now) (c .args .token .first) (c .args .token .second) (omega arith)
+returns c = token-over (c .args .buffer .now) (c .args .token .first) (c .args .token .second) (omega arith)
 
 pub write-token-spec : {M : Type 1} → statement M
 write-token-spec = tie.close (tie.spec (λ c. search needs) (λ c. search needs) (λ c. search needs) returns)

@@ -1,0 +1,13 @@
+-- `lines::selected_text` meets its contract: the code is the definition.
+-- Assumes nothing.
+use Rattle.lines.specs.Lines.{lineText, textOf}
+use mathlib.Core.Path.{refl}
+use Rattle.lines.proofs.selected_text.Statement.{statement}
+use Rattle.lines.proofs.selected_text.Tie as tie
+
+returns : tie.Need-returns
+unfolding lineText textOf
+returns c = refl
+
+pub selected-text-spec : {M : Type 1} → statement M
+selected-text-spec = tie.close (tie.spec returns)

@@ -1,0 +1,3 @@
+pub mod Midway
+pub mod Pinned
+pub mod Unique

@@ -1,0 +1,89 @@
+-- The shifter in the middle of a word: one bit more, and the bit that completes the word.
+-- Assumes nothing.
+use Prim.Native.Nat.{ℕ, zero, suc, _+_, _-_, _*_, _/_, _%_, _^_, _≤_, _<_}
+use native.Mathlib.Nat.{mod-eq-of-lt, lt-of-lt-of-le}
+use native.Mathlib.Omega.{arith}
+use mathlib.Core.Path.{_≡_, refl, sym, ap, _∙_}
+use mathlib.Core.Bool.{Bool, true, false}
+use mathlib.Core.List.{List, [], _∷_, _++_}
+use borrow.Author.Tests.{ne-eqb}
+use lib.Dec.{eqb}
+use lib.ListN.{length, getD, length-append}
+use lib.Pow.{pow-mono}
+use Rattle.crc.specs.Bits.{bits, number, digit}
+use Rattle.crc.proofs.Digits.{number-append, number-lt}
+use Rattle.shifter.specs.Shifter.{cleared, current, joined, step}
+use Rattle.shifter.specs.declared.Shifter.{Shifter}
+use Rattle.shifter.proofs.Sixteen.{step-within, step-last}
+
+-- these bits of a word have come, while this word goes out
+unfoldable pub midway : ℕ → List Bool → Shifter
+midway w [] = cleared
+midway w (x ∷ xs) = record { count = length (x ∷ xs); taken = number (x ∷ xs); sending = w }
+
+-- bit i of a word
+bit-at : (k i w : ℕ) → i < k → getD (bits k w) i false ≡ eqb (w / 2 ^ (k - suc i) % 2) 1
+unfolding bits
+bit-at zero i w h = absurd (omega arith)
+bit-at (suc k) zero w h = ap (λ (e : ℕ). eqb (w / 2 ^ e % 2) 1) (omega arith)
+bit-at (suc k) (suc i) w h = bit-at k i w (omega arith) ∙ ap (λ (e : ℕ). eqb (w / 2 ^ e % 2) 1) (omega arith)
+
+number-snoc : (xs : List Bool) (b : Bool) → number (xs ++ (b ∷ [])) ≡ number xs * 2 + digit b
+number-snoc xs b = number-append xs (b ∷ []) ∙ ap (λ (d : ℕ). number xs * 2 + d) (one b)
+  where
+    one : (b : Bool) → number (b ∷ []) ≡ digit b
+    one true = unfold number in refl
+    one false = unfold number in refl
+
+module _ (w : ℕ) where
+  pub midway-count : (xs : List Bool) → midway w xs .count ≡ length xs
+  unfolding midway
+  midway-count [] = refl
+  midway-count (x ∷ xs) = refl
+
+  midway-taken : (xs : List Bool) → midway w xs .taken ≡ number xs
+  unfolding midway number
+  midway-taken [] = refl
+  midway-taken (x ∷ xs) = refl
+
+  midway-joined : (xs : List Bool) (b : Bool) → length xs < 16 → joined (midway w xs) b ≡ number (xs ++ (b ∷ []))
+  unfolding joined
+  midway-joined xs b h =
+      let long : length (xs ++ (b ∷ [])) ≤ 16 = simp length-append (omega arith) in
+      let small : number (xs ++ (b ∷ [])) < 65536 = lt-of-lt-of-le (number-lt (xs ++ (b ∷ []))) (pow-mono {i = length (xs ++ (b ∷ []))} {j = 16} long) in
+      ap (λ (n : ℕ). (n * 2 + digit b) % 65536) (midway-taken xs) ∙ ap (λ (n : ℕ). n % 65536) (sym (number-snoc xs b)) ∙ mod-eq-of-lt small
+
+  midway-next : (xs : List Bool) (b : Bool) → record { count = length xs + 1; taken = number (xs ++ (b ∷ [])); sending = w } ≡ midway w (xs ++ (b ∷ []))
+  unfolding midway
+  midway-next [] b = refl
+  midway-next (x ∷ xs) b = ap (λ (n : ℕ). record { count = n; taken = number ((x ∷ xs) ++ (b ∷ [])); sending = w }) (sym (length-append (x ∷ xs) (b ∷ [])))
+
+  -- whatever is handed in, where it is the word itself for the first bit
+  module _ (xs : List Bool) (next : ℕ) (same : current (midway w xs) next ≡ w) (b : Bool) where
+    pub step-midway : length xs < 15
+        → step (midway w xs) next b
+        ≡ record {
+          shifter = midway w (xs ++ (b ∷ []));
+          answer = record { refusal = 0; bit = getD (bits 16 w) (length xs) false; complete = false; word = 0 };
+        }
+    step-midway h =
+        step-within (midway w xs) next w same b (rw (midway-count xs) h)
+        ∙ rw (midway-joined xs b (omega arith), midway-count xs, midway-next xs b, bit-at 16 (length xs) w (omega arith), place)
+      where
+        place : 16 - suc (length xs) ≡ 15 - length xs
+        place = omega arith
+
+    pub step-sixteenth : length xs ≡ 15
+        → step (midway w xs) next b
+        ≡ record {
+          shifter = cleared;
+          answer = record { refusal = 0; bit = getD (bits 16 w) (length xs) false; complete = true; word = number (xs ++ (b ∷ [])) };
+        }
+    step-sixteenth h =
+        step-last (midway w xs) next w same b (midway-count xs ∙ h)
+        ∙ rw (midway-joined xs b (omega arith), h, bit-at 16 15 w (omega arith))
+
+  -- the word handed in is looked at with the first bit alone
+  pub current-later : (x : Bool) (xs : List Bool) (next : ℕ) → current (midway w (x ∷ xs)) next ≡ w
+  unfolding midway current
+  current-later x xs next = rw (ne-eqb (suc (length xs)) 0 (λ e. omega arith))

@@ -1,0 +1,244 @@
+-- Bit by bit through the shifter is word by word. Sixteen bits exchange a word; a whole line gives the card, the memory, the bits
+-- and the refusals that demand 3 says of it. So demand 3 holds for a card behind its shifter.
+-- Assumes nothing.
+use Prim.Native.Nat.{ℕ, zero, suc, _+_, _*_, _/_, _≤_, _<_}
+use native.Mathlib.Numerals.{add-one}
+use native.Mathlib.Omega.{arith}
+use mathlib.Core.Path.{_≡_, refl, sym, ap, ap₂, _∙_}
+use mathlib.Core.Bool.{Bool, false}
+use mathlib.Core.List.{List, [], _∷_, _++_, append-assoc, append-nil}
+use borrow.Author.Tests.{le-ltb, eq-eqb}
+use lib.Dec.{lit≤}
+use lib.ListN.{length, getD, take, drop, length-append, length-take, length-drop, drop-of-length-le, take-append-drop}
+use lib.Seq.{drop-cons, drop-drop, take-append-add}
+use Rattle.crc.specs.Bits.{bits, number, stream}
+use Rattle.crc.proofs.Digits.{length-bits}
+use Rattle.link.specs.Lines as lines
+use Rattle.link.specs.Lines.{words, wholeWords}
+use Rattle.card.specs.Card.{wordRefusal, told, exchanged}
+use Rattle.card.specs.Sending.{nextWord, taken}
+use Rattle.card.specs.declared.Card.{Card}
+use Rattle.card.proofs.Laws.{in-range, lent}
+use Rattle.card.proofs.Ranges.{exchanged-ranged}
+use Rattle.card.proofs.Sound.{not-out}
+use Rattle.shifter.specs.Shifter.{cleared, current, step, leftOver}
+use Rattle.shifter.specs.declared.LeftOver.{LeftOver}
+use Rattle.shifter.specs.declared.Shifter.{Shifter}
+use Rattle.shifter.specs.declared.Step.{Step}
+use Rattle.delivery.specs.Delivery.{Delivery, Undamaged}
+use Rattle.delivery.specs.Play.{after, answers, listed, listened, cardAfter, memoryOf, sentBits, refusalsOf, heard}
+use Rattle.delivery.proofs.Closed.{Closed, selected-idle, closed}
+use Rattle.delivery.proofs.Held.{Idle, holding, word-quiet}
+use Rattle.delivery.proofs.Machine.{Hearing}
+use Rattle.delivery.proofs.Theorem.{delivery-by, undamaged-by}
+use Rattle.pins.specs.AtPins.{Ran, behind, ran, releasedAfter, atPins}
+use Rattle.pins.specs.Pins.{pinsOf, answer, shifterRefusal, behindShifter, selectedPins, askedWord, handed, clocked, releasedPins, memoryAfterPins}
+use Rattle.pins.specs.declared.Clocked.{Clocked}
+use Rattle.pins.specs.declared.Pins.{Pins}
+use Rattle.pins.proofs.Midway.{midway, midway-count, step-midway, step-sixteenth, current-later}
+
+-- ---- a shifter whose count is in range
+
+left-taken : (s : Shifter) → s .count ≤ 15 → leftOver s ≡ record { refusal = 0; bits = s .count }
+unfolding leftOver
+left-taken s h = rw (le-ltb 15 (s .count) h)
+
+unrefused : (p : Pins) → p .shifter .count ≤ 15 → shifterRefusal p ≡ 0
+unfolding shifterRefusal
+unrefused p h = ap (λ (l : LeftOver). l .refusal) (left-taken (p .shifter) h)
+
+-- ---- the bits of one word
+
+module _ (c : Card) (memory : List ℕ) (quiet : wordRefusal c (length memory) ≡ 0) where
+  -- the word that goes out
+  abbrev out : ℕ
+  out = nextWord c memory
+
+  -- some bits of a word have come
+  abbrev mid : List Bool → Pins
+  mid xs = pinsOf c (midway out xs)
+
+  asked-first : (xs : List Bool) → current (midway out xs) (askedWord (mid xs) memory) ≡ out
+  unfolding current askedWord midway told
+  asked-first [] = rw quiet
+  asked-first (x ∷ xs) = current-later out x xs _
+
+  module _ (xs : List Bool) (b : Bool) where
+    number-quiet : length xs < 16 → behindShifter (mid xs) 0 ≡ 0
+    unfolding behindShifter
+    number-quiet h = rw (unrefused (mid xs) (rw (midway-count out xs) (omega arith)))
+
+    -- what a step of the shifter makes of the card
+    turned : Step → Clocked
+    turned t = record { refusal = 0; pins = pinsOf (handed c memory (t .answer)) (t .shifter); bit = t .answer .bit }
+
+    clocked-turned : length xs < 16 → clocked (mid xs) memory b ≡ turned (step (midway out xs) (askedWord (mid xs) memory) b)
+    unfolding clocked turned
+    clocked-turned h = rw (quiet, number-quiet h)
+
+    clocked-within : length xs < 15 → clocked (mid xs) memory b ≡ record { refusal = 0; pins = mid (xs ++ (b ∷ [])); bit = getD (bits 16 out) (length xs) false }
+    unfolding turned handed
+    clocked-within h = clocked-turned (omega arith) ∙ ap turned (step-midway out xs _ (asked-first xs) b h)
+
+    clocked-last : length xs ≡ 15
+        → clocked (mid xs) memory b
+        ≡ record { refusal = 0; pins = pinsOf (exchanged c memory (number (xs ++ (b ∷ []))) .card) cleared; bit = getD (bits 16 out) (length xs) false }
+    unfolding turned handed
+    clocked-last h = clocked-turned (omega arith) ∙ ap turned (step-sixteenth out xs _ (asked-first xs) b h)
+
+    -- the bit that goes out is the next one of the word
+    next-bit : length xs < 16 → getD (bits 16 out) (length xs) false ∷ drop (length (xs ++ (b ∷ []))) (bits 16 out) ≡ drop (length xs) (bits 16 out)
+    next-bit h =
+        ap (λ (n : ℕ). getD (bits 16 out) (length xs) false ∷ drop n (bits 16 out)) (length-append xs (b ∷ []) ∙ add-one (length xs))
+        ∙ sym (drop-cons (bits 16 out) (length xs) false (omega (arith, length-bits 16 out)))
+
+    -- the bits behind this one
+    then : List Bool → Clocked → Ran
+    then ys r = behind r (ran (r .pins) memory ys)
+
+  -- bits that complete no word
+  part : (ys xs : List Bool) → length xs + length ys < 16
+      → ran (mid xs) memory ys ≡ record { pins = mid (xs ++ ys); sent = take (length ys) (drop (length xs) (bits 16 out)); refused = [] }
+  unfolding ran then listed
+  part [] xs h = ap (λ (l : List Bool). record { pins = mid l; sent = []; refused = [] }) (sym (append-nil xs))
+  part (b ∷ ys) xs h =
+      let all : length (xs ++ (b ∷ [])) + length ys < 16 = simp length-append (omega arith) in
+      ap (then xs b ys) (clocked-within xs b (omega arith))
+      ∙ ap (behind (record { refusal = 0; pins = mid (xs ++ (b ∷ [])); bit = getD (bits 16 out) (length xs) false })) (part ys (xs ++ (b ∷ [])) all)
+      ∙ ap₂ (λ (l : List Bool) (t : List Bool). record { pins = mid l; sent = take (suc (length ys)) t; refused = [] }) (append-assoc xs (b ∷ []) ys) (next-bit xs b (omega arith))
+
+  -- and sixteen bits: the word goes to the card, and the next word has gone out
+  whole : (ys xs : List Bool) → length xs + length ys ≡ 16 → length xs < 16
+      → ran (mid xs) memory ys ≡ record { pins = pinsOf (exchanged c memory (number (xs ++ ys)) .card) cleared; sent = drop (length xs) (bits 16 out); refused = [] }
+  unfolding ran then listed
+  whole [] xs all h = absurd (omega arith)
+  whole (b ∷ []) xs all h =
+      let none : drop (length (xs ++ (b ∷ []))) (bits 16 out) ≡ [] = drop-of-length-le (bits 16 out) {i = length (xs ++ (b ∷ []))} (simp length-append (omega (arith, length-bits 16 out))) in
+      ap (then xs b []) (clocked-last xs b (omega arith))
+      ∙ ap (λ (l : List Bool). record { pins = pinsOf (exchanged c memory (number (xs ++ (b ∷ []))) .card) cleared; sent = l; refused = [] })
+      (ap (λ (l : List Bool). getD (bits 16 out) (length xs) false ∷ l) (sym none) ∙ next-bit xs b h)
+  whole (b ∷ y ∷ ys) xs all h =
+      let rest : length (xs ++ (b ∷ [])) + length (y ∷ ys) ≡ 16 = simp length-append (omega arith) in
+      ap (then xs b (y ∷ ys)) (clocked-within xs b (omega arith))
+      ∙ ap (behind (record { refusal = 0; pins = mid (xs ++ (b ∷ [])); bit = getD (bits 16 out) (length xs) false }))
+      (whole (y ∷ ys) (xs ++ (b ∷ [])) rest (simp length-append (omega arith)))
+      ∙ ap₂ (λ (l : List Bool) (t : List Bool). record { pins = pinsOf (exchanged c memory (number l) .card) cleared; sent = t; refused = [] })
+      (append-assoc xs (b ∷ []) (y ∷ ys)) (next-bit xs b h)
+
+  -- so with one memory from a word's first bit to its last, whatever it is before and behind them, sixteen bits exchange a word
+  pub word-at-pins : (line : List Bool) → length line ≡ 16
+      → ran (pinsOf c cleared) memory line ≡ record { pins = pinsOf (exchanged c memory (number line) .card) cleared; sent = bits 16 (nextWord c memory); refused = [] }
+  unfolding midway
+  word-at-pins line h = whole line [] (omega (arith, h)) (omega arith)
+
+  -- the card stays one that takes words
+  stays-quiet : (word : ℕ) → wordRefusal (exchanged c memory word .card) (length memory) ≡ 0
+  unfolding wordRefusal exchanged taken
+  stays-quiet word =
+      let l = lent c (length memory) quiet in
+      rw (not-out (exchanged c memory word .card) (exchanged-ranged c memory word (in-range c (l .ranged)))) (rw (quiet, eq-eqb _ _ (l .same), l .opened))
+
+  sent-next : (word : ℕ) → exchanged c memory word .sent ≡ out
+  unfolding exchanged
+  sent-next word = rw quiet
+
+-- ---- a line
+
+-- first some bits, then others
+joined : Ran → Ran → Ran
+joined r s = record { pins = s .pins; sent = r .sent ++ s .sent; refused = r .refused ++ s .refused }
+
+ran-on : (p : Pins) (memory : List ℕ) (xs ys : List Bool) → ran p memory (xs ++ ys) ≡ joined (ran p memory xs) (ran (ran p memory xs .pins) memory ys)
+unfolding ran joined
+ran-on p memory [] ys = refl
+ran-on p memory (b ∷ xs) ys =
+    let first : Clocked = clocked p memory b in
+    let r : Ran = ran (first .pins) memory xs in
+    let s : Ran = ran (r .pins) memory ys in
+    ap (behind first) (ran-on (first .pins) memory xs ys)
+    ∙ ap (λ (l : List ℕ). record { pins = s .pins; sent = first .bit ∷ (r .sent ++ s .sent); refused = l }) (sym (append-assoc (listed (first .refusal)) (r .refused) (s .refused)))
+
+-- the card after n words, the bits of the next one, and what was sent
+lineRan : Card → List ℕ → ℕ → List Bool → Ran
+lineRan c memory n line = record {
+  pins = pinsOf (after c memory (words n line)) (midway (nextWord (after c memory (words n line)) memory) (drop (n * 16) line));
+  sent = take (length line) (stream 16 (answers c memory (words n line) ++ (nextWord (after c memory (words n line)) memory ∷ [])));
+  refused = [];
+}
+
+line-at-pins : (n : ℕ) (c : Card) (memory : List ℕ) → wordRefusal c (length memory) ≡ 0 → (line : List Bool) → length line / 16 ≡ n
+    → ran (pinsOf c cleared) memory line ≡ lineRan c memory n line
+unfolding lineRan joined words after answers stream midway
+line-at-pins zero c memory quiet line h =
+    part c memory quiet line [] (omega arith)
+    ∙ ap (λ (l : List Bool). record { pins = mid c memory quiet line; sent = take (length line) l; refused = [] }) (sym (append-nil (bits 16 (nextWord c memory))))
+line-at-pins (suc n) c memory quiet line h =
+    let front : List Bool = take 16 line in
+    let rest : List Bool = drop 16 line in
+    let c′ : Card = exchanged c memory (number front) .card in
+    let sixteen : length front ≡ 16 = length-take 16 line ∙ omega arith in
+    let fewer : length rest / 16 ≡ n = omega (arith, length-drop 16 line) in
+    let long : length line ≡ length (bits 16 (nextWord c memory)) + length rest = omega (arith, length-drop 16 line, length-bits 16 (nextWord c memory)) in
+    let place : 16 + n * 16 ≡ suc n * 16 = omega arith in
+    let tail : List Bool = stream 16 (answers c′ memory (words n rest) ++ (nextWord (after c′ memory (words n rest)) memory ∷ [])) in
+    ap (ran (pinsOf c cleared) memory) (sym (take-append-drop 16 line))
+    ∙ ran-on (pinsOf c cleared) memory front rest
+    ∙ ap (λ (r : Ran). joined r (ran (r .pins) memory rest)) (word-at-pins c memory quiet front sixteen)
+    ∙ ap (joined (record { pins = pinsOf c′ cleared; sent = bits 16 (nextWord c memory); refused = [] })) (line-at-pins n c′ memory (stays-quiet c memory quiet (number front)) rest fewer)
+    ∙ ap₂ (λ (l : List Bool) (t : List Bool). record { pins = pinsOf (after c′ memory (words n rest)) (midway (nextWord (after c′ memory (words n rest)) memory) l); sent = t; refused = [] })
+    (drop-drop (n * 16) 16 line ∙ ap (λ (k : ℕ). drop k line) place)
+    (sym (take-append-add (bits 16 (nextWord c memory)) tail (length rest))
+    ∙ ap₂ (λ (k w : ℕ). take k (bits 16 w ++ tail)) (sym long) (sym (sent-next c memory quiet (number front))))
+
+-- ---- a whole message
+
+module _ (c : Card) (memory : List ℕ) (idle : Idle c memory) (s : Shifter) (in-range : s .count ≤ 15) (line : List Bool) where
+  -- the card with its message open
+  abbrev opened : Card
+  opened = holding c [] 0
+
+  -- select opens the message and clears the shifter
+  select-pins : selectedPins (pinsOf c s) ≡ answer 0 (pinsOf opened cleared)
+  unfolding selectedPins behindShifter
+  select-pins = rw (unrefused (pinsOf c s) in-range, selected-idle c memory idle)
+
+  abbrev end : Ran
+  end = lineRan opened memory (length line / 16) line
+
+  all-ran : ran (pinsOf opened cleared) memory line ≡ end
+  all-ran = line-at-pins (length line / 16) opened memory (word-quiet c memory idle [] 0 (lit≤ tt)) line refl
+
+  left : end .pins .shifter .count ≡ lines.leftOver line
+  unfolding lineRan lines.leftOver
+  left = midway-count _ (drop (length line / 16 * 16) line) ∙ length-drop (length line / 16 * 16) line ∙ omega arith
+
+  small : end .pins .shifter .count ≤ 15
+  unfolding lines.leftOver
+  small = omega (arith, left)
+
+  left-is : leftOver (end .pins .shifter) .bits ≡ lines.leftOver line
+  left-is = ap (λ (l : LeftOver). l .bits) (left-taken (end .pins .shifter) small) ∙ left
+
+  message-closed : Closed c memory (wholeWords line) (lines.leftOver line)
+  message-closed = closed c memory idle (wholeWords line) (lines.leftOver line) (unfold lines.leftOver in omega arith)
+
+  at-pins : (way : List Bool → List Bool) → atPins s c memory line way ≡ heard c memory line way
+  unfolding lineRan atPins releasedAfter heard cardAfter memoryOf sentBits refusalsOf listened wholeWords releasedPins memoryAfterPins listed
+  at-pins way = rw (select-pins, all-ran, unrefused (end .pins) small, left-is, message-closed .select-quiet, message-closed .words-quiet, cardAfter, sentBits, listened, selected-idle c memory idle)
+
+  -- the shifter is in range again, so that the next message can follow
+  pub in-range-after : releasedAfter (pinsOf c s) memory line .pins .shifter .count ≤ 15
+  unfolding releasedAfter releasedPins
+  in-range-after = rw (select-pins, all-ran, unrefused (end .pins) small) small
+
+-- at the pins a card hears a line as it hears it word by word
+pub pinned : (s : Shifter) → s .count ≤ 15 → Hearing (atPins s)
+pinned s in-range c memory idle line way = at-pins c memory idle s in-range line way
+
+-- ---- demand 3 at the pins, whatever the shifter holds before each of the three messages
+
+pub delivery-at-pins : (s : ℕ → Shifter) → ((n : ℕ) → s n .count ≤ 15) → Delivery (λ n. atPins (s n))
+delivery-at-pins s in-range = delivery-by (λ n. atPins (s n)) (λ n. pinned (s n) (in-range n))
+
+pub undamaged-at-pins : (s : ℕ → Shifter) → ((n : ℕ) → s n .count ≤ 15) → Undamaged (λ n. atPins (s n))
+undamaged-at-pins s in-range = undamaged-by (λ n. atPins (s n)) (λ n. pinned (s n) (in-range n))

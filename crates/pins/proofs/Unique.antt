@@ -1,0 +1,16 @@
+-- Each public operation's contract leaves one answer, and one content of what it is lent.
+-- Assumes nothing.
+use mathlib.Core.Path.{_≡_, sym, _∙_}
+use denote.Ref.{now}
+use Rattle.pins.proofs.clock.Reads as clock
+use Rattle.pins.proofs.release.Reads as release
+use Rattle.pins.proofs.select.Reads as select
+
+pub one-select : (κs : _) (a : _) (r s : _) (e f : _) → select.Post κs a r e → select.Post κs a s f → r ≡ s
+one-select κs a r s e f p q = p ∙ sym q
+
+pub one-clock : (κs : _) (a : _) (r s : _) (e f : _) → clock.Post κs a r e → clock.Post κs a s f → r ≡ s
+one-clock κs a r s e f p q = p ∙ sym q
+
+pub one-release : (κs : _) (a : _) (r s : _) (e f : _) → release.Post κs a r e → release.Post κs a s f → (r ≡ s) × (now (e .1 .0) ≡ now (f .1 .0))
+one-release κs a r s e f p q = (p .0 ∙ sym (q .0), p .1 ∙ sym (q .1))

@@ -1,0 +1,2 @@
+pub mod AtPins
+pub mod Pins

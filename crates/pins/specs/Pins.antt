@@ -1,0 +1,62 @@
+-- A card behind its bit shifter: select, each bit and release. A refusal gives its number, the state it was given, the bit 0, and memory as lent.
+use Prim.Native.Nat.{ℕ}
+use mathlib.Core.Bool.{Bool, false, cond}
+use mathlib.Core.List.{List}
+use lib.Dec.{eqb}
+use lib.ListN.{length}
+use Rattle.rules.specs.Refusals as refusal
+use Rattle.card.specs.Card.{selected, wordRefusal, told, exchanged, released, memoryAfter}
+use Rattle.card.specs.declared.Card.{Card}
+use Rattle.shifter.specs.Shifter.{cleared, step, leftOver}
+use Rattle.shifter.specs.declared.Sent.{Sent}
+use Rattle.shifter.specs.declared.Shifter.{Shifter}
+use Rattle.pins.specs.declared.Answer.{Answer}
+use Rattle.pins.specs.declared.Clocked.{Clocked}
+use Rattle.pins.specs.declared.Pins.{Pins}
+
+abbrev pub pinsOf : Card → Shifter → Pins
+pinsOf c s = record { card = c; shifter = s }
+
+abbrev pub answer : ℕ → Pins → Answer
+answer n p = record { refusal = n; pins = p }
+
+-- State for a shifter whose count is above 15; it comes before what the card refuses
+unfoldable pub shifterRefusal : Pins → ℕ
+shifterRefusal p = leftOver (p .shifter) .refusal
+
+unfoldable pub behindShifter : Pins → ℕ → ℕ
+behindShifter p number = cond (eqb (shifterRefusal p) refusal.None) number (shifterRefusal p)
+
+-- select opens the card's message and clears the shifter: State, Open
+unfoldable pub selectedPins : Pins → Answer
+selectedPins p =
+    let number = behindShifter p (selected (p .card) .refusal) in
+    cond (eqb number refusal.None) (answer refusal.None (pinsOf (selected (p .card) .card) cleared)) (answer number p)
+
+-- the card's next word is needed before the word's first bit, and then no more
+unfoldable pub askedWord : Pins → List ℕ → ℕ
+askedWord p memory = cond (eqb (p .shifter .count) 0) (told (p .card) memory .word) 0
+
+-- a bit that completes a word hands it to the card
+unfoldable pub handed : Card → List ℕ → Sent → Card
+handed c memory sent = cond (sent .complete) (exchanged c memory (sent .word) .card) c
+
+-- one bit in, one bit out, refused as a word is: State, Size, Closed
+unfoldable pub clocked : Pins → List ℕ → Bool → Clocked
+clocked p memory bit =
+    let number = behindShifter p (wordRefusal (p .card) (length memory)) in
+    let done = step (p .shifter) (askedWord p memory) bit in
+    cond (eqb number refusal.None)
+    (record { refusal = refusal.None; pins = pinsOf (handed (p .card) memory (done .answer)) (done .shifter); bit = done .answer .bit })
+    (record { refusal = number; pins = p; bit = false })
+
+-- release takes the shifter's count as left-over bits: State, Size, Closed
+unfoldable pub releasedPins : Pins → ℕ → Answer
+releasedPins p size =
+    let a = released (p .card) size (leftOver (p .shifter) .bits) in
+    cond (eqb (shifterRefusal p) refusal.None) (answer (a .refusal) (pinsOf (a .card) (p .shifter))) (answer (shifterRefusal p) p)
+
+-- the lent memory after release; nothing else changes it
+unfoldable pub memoryAfterPins : Pins → List ℕ → List ℕ
+memoryAfterPins p memory =
+    cond (eqb (shifterRefusal p) refusal.None) (memoryAfter (p .card) memory (leftOver (p .shifter) .bits)) memory

@@ -1,0 +1,132 @@
+// A card behind its bit shifter: what select, each bit and release do at the pins. Both go in by value and come back.
+ghost use mathlib.Core.Path.{_≡_};
+ghost use lib.ListN.{length};
+ghost use Rattle.pins.specs.Pins.{shifterRefusal, behindShifter, selectedPins, askedWord, handed, clocked, releasedPins, memoryAfterPins};
+use card::Card;
+use rules::refusal;
+use shifter::Sent;
+use shifter::Shifter;
+
+pub struct Pins {
+    pub card: Card,
+    pub shifter: Shifter,
+}
+
+// A refusal's number, or 0, and the state after.
+pub struct Answer {
+    pub refusal: u8,
+    pub pins: Pins,
+}
+
+// A refusal's number, or 0, the state after, and the bit sent.
+pub struct Clocked {
+    pub refusal: u8,
+    pub pins: Pins,
+    pub bit: bool,
+}
+
+fn shifter_refusal(pins: Pins) -> u8
+    ensures { λ r. ⌜ r ≡ shifterRefusal pins ⌝ }
+{
+    let left = shifter::left_over(pins.shifter);
+    left.refusal
+}
+
+// The shifter's own refusal comes before the card's.
+fn behind_shifter(pins: Pins, number: u8) -> u8
+    ensures { λ r. ⌜ r ≡ behindShifter pins number ⌝ }
+{
+    let first = shifter_refusal(pins);
+    if first != refusal::NONE {
+        return first;
+    }
+    number
+}
+
+// Opens a message, and clears the shifter.
+pub fn select(pins: Pins) -> Answer
+    ensures { λ r. ⌜ r ≡ selectedPins pins ⌝ }
+{
+    let opened = card::select(pins.card);
+    let number = behind_shifter(pins, opened.refusal);
+    if number != refusal::NONE {
+        return Answer {
+            refusal: number,
+            pins,
+        };
+    }
+    let card = opened.card;
+    Answer {
+        refusal: refusal::NONE,
+        pins: Pins {
+            card,
+            shifter: shifter::CLEARED,
+        },
+    }
+}
+
+// The card's next word, asked for with the word's first bit alone: finding it costs as much as a whole word.
+fn asked_word(pins: Pins, memory: &[u16]) -> u16
+    ensures { λ r. ⌜ r ≡ askedWord pins (now (memory .entry)) ⌝ }
+{
+    if pins.shifter.count == 0 {
+        let told = exchange::next_word(pins.card, memory);
+        return told.word;
+    }
+    0
+}
+
+// A bit that completes a word hands it to the card.
+fn hand(card: Card, memory: &[u16], sent: Sent) -> Card
+    ensures { λ r. ⌜ r ≡ handed card (now (memory .entry)) sent ⌝ }
+{
+    if sent.complete {
+        let exchanged = exchange::word(card, memory, sent.word);
+        return exchanged.card;
+    }
+    card
+}
+
+// Takes one bit, and sends one.
+pub fn clock(pins: Pins, memory: &[u16], bit: bool) -> Clocked
+    ensures { λ r. ⌜ r ≡ clocked pins (now (memory .entry)) bit ⌝ }
+{
+    let number = behind_shifter(pins, card::word_refusal(pins.card, memory.len()));
+    if number != refusal::NONE {
+        return Clocked {
+            refusal: number,
+            pins,
+            bit: false,
+        };
+    }
+    let step = shifter::shift_copy(pins.shifter, asked_word(pins, memory), bit);
+    let sent = step.answer;
+    let card = hand(pins.card, memory, sent);
+    let shifter = step.shifter;
+    Clocked {
+        refusal: refusal::NONE,
+        pins: Pins { card, shifter },
+        bit: sent.bit,
+    }
+}
+
+// Ends the message, with the shifter's count as left-over bits. Only here may memory change.
+pub fn release(pins: Pins, memory: &mut [u16]) -> Answer
+    ensures { λ r. ⌜ r ≡ releasedPins pins (length (now (memory .entry))) ⌝ }
+    ensures { λ _. ⌜ now (memory .exit) ≡ memoryAfterPins pins (now (memory .entry)) ⌝ }
+{
+    let left = shifter::left_over(pins.shifter);
+    if left.refusal != refusal::NONE {
+        return Answer {
+            refusal: left.refusal,
+            pins,
+        };
+    }
+    let answer = release::release(pins.card, memory, left.bits);
+    let card = answer.card;
+    let shifter = pins.shifter;
+    Answer {
+        refusal: answer.refusal,
+        pins: Pins { card, shifter },
+    }
+}
