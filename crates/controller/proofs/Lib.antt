@@ -1,4 +1,3 @@
 pub mod AnswerLaws
 pub mod Known
 pub mod MessageLaws
-pub mod Unique

@@ -1,8 +1,5 @@
-// The controller: builds command messages and reads answers. The sure write's types stand here too; its functions are `sure`.
+// What the controller's functions give. They stand in `builder`, `reader` and `sure`; all definitions of the controller stand here.
 use token::response::Response;
-
-pub mod answer;
-pub mod message;
 
 // What building a message gives: the refusal's number, 0 for none, and the number of words written.
 pub struct MessageBuilt {

@@ -1,0 +1,79 @@
+-- `reader::read_words` meets its contract: the token and then the check say which case holds.
+-- Assumes nothing.
+use Prim.Native.Nat.{_-_, _≤_}
+use native.Mathlib.Omega.{arith}
+use mathlib.Core.Bool.{true, false}
+use mathlib.Core.Path.{_≡_, sym, ap, _∙_}
+use borrow.Author.Needs.{needs}
+use lib.ListN.{length, take, drop}
+use Rattle.crc.specs.Crc.{agrees}
+use Rattle.rules.specs.Refusals as refusal
+use Rattle.token.specs.Response.{responseReadGives}
+use Rattle.controller.specs.Answers.{noFields, payloadGood, answerRead}
+use Rattle.controller.proofs.AnswerLaws.{read-passed, token-read}
+use Rattle.controller.proofs.MessageLaws.{tail-lent, message-long}
+use Rattle.reader.proofs.read_words.Statement.{statement}
+use Rattle.reader.proofs.read_words.Tie as tie
+
+-- the words have their token
+two-long : (s : tie.Start) → 2 ≤ length (s .args .words .now)
+two-long s =
+    let (short, same) = read-passed (s .args .n) (length (s .args .words .now)) (s .pre) in
+    omega (arith, same, message-long (s .args .n))
+
+shared-slice-read-first : tie.Need-shared-slice-read-first
+shared-slice-read-first c = omega (arith, two-long (c .before .before))
+
+shared-slice-read-second : tie.Need-shared-slice-read-second
+shared-slice-read-second c = omega (arith, two-long (c .before .before .before))
+
+returns : tie.Need-returns
+unfolding answerRead payloadGood
+returns c =
+    let s = c .before .before .before .before .before .before in
+    let (wrong, none) = token-read (s .args .words .now) false noFields (ap responseReadGives (sym (c .enum-told .given .1)) ∙ c .before .before .read .ensures) in
+    simp (s .pre, wrong, none)
+
+sub-agrees : tie.Need-sub-agrees
+sub-agrees c = two-long (c .before .before .before .before .before .before .before)
+
+part-agrees-start : tie.Need-part-agrees-start
+part-agrees-start c = omega (arith, two-long (c .before .before .before .before .before .before .before))
+
+judged : (p : tie.After-agrees)
+    → let s = p .before .before .before .before .before .before .before .before .before in
+    answerRead (s .args .n) (s .args .words .now)
+    ≡ record { refusal = refusal.None; token = true; payload = p .agrees .result; fields = p .before .before .before .fields .given .0 .0 }
+unfolding answerRead payloadGood
+judged p =
+    let s = p .before .before .before .before .before .before .before .before .before in
+    let words = s .args .words .now in
+    let (right, same) =
+    token-read words true (p .before .before .before .fields .given .0 .0)
+    (ap responseReadGives (sym (p .before .before .before .fields .given .1)) ∙ p .before .before .before .before .before .read .ensures) in
+    let rest : take (length words - 2) (drop 2 words) ≡ drop 2 words = tail-lent 2 words (two-long s) in
+    let check : agrees (s .args .n) (drop 2 words) ≡ p .agrees .result = rw rest at (sym (p .agrees .ensures)) in
+    simp (s .pre, right, same, check)
+
+returns-2 : tie.Need-returns-2
+returns-2 c = rw (judged (c .before), c .if1 .taken)
+
+returns-3 : tie.Need-returns-3
+returns-3 c = rw (judged (c .before), c .if1 .left)
+
+pub read-words-spec : {M : Type 1} → statement M
+read-words-spec =
+    tie.close
+    (tie.spec
+    shared-slice-read-first
+    shared-slice-read-second
+    (λ c κs. tt)
+    (λ c. search needs)
+    (λ c. search needs)
+    returns
+    sub-agrees
+    part-agrees-start
+    (λ c. search needs)
+    (λ c κs. tt)
+    returns-2
+    returns-3)
