@@ -89,26 +89,29 @@ def drawn_damage(draw, bit_count):
 
 
 def listed_runs():
-    """The plays of crates/delivery/proofs/Examples.antt, and blocks at the edges."""
+    """The kinds of play of crates/delivery/proofs/Examples.antt, and blocks at the edges."""
     calm = (UNDAMAGED, UNDAMAGED, UNDAMAGED)
     unseen = (UNSEEN, 0, NOWHERE, NOWHERE)
     cut = (CUT, 0, 79, NOWHERE)
-    # Done, and the READBACK behind it refused: so WRITE's token stays the last token.
-    told_before = (UNDAMAGED, UNDAMAGED, cut)
+    # The WRITE is accepted and nothing follows: its token stays the last token, and the status is clean.
+    written_before = (UNDAMAGED, UNDAMAGED, unseen)
     plays = [
         calm,
         (UNDAMAGED, (CUT, 0, 40, NOWHERE), UNDAMAGED),
         (UNDAMAGED, (FLIPPED, 0, 40, NOWHERE), UNDAMAGED),
         (UNDAMAGED, UNDAMAGED, (FLIPPED, 0, NOWHERE, 3)),
-        told_before,
+        (UNDAMAGED, UNDAMAGED, cut),
+        written_before,
         (UNDAMAGED, unseen, UNDAMAGED),
-        told_before,
+        written_before,
         ((UNSEEN, 1, NOWHERE, NOWHERE), unseen, UNDAMAGED),
-        told_before,
+        written_before,
         (cut, unseen, UNDAMAGED),
     ]
     edges = [(0, []), (255, []), (255, [0xFFFF]), (255, [1, 2]), (193, list(range(63))), (194, list(range(63)))]
-    return [(1, [7], play) for play in plays] + [(sub, words, calm) for sub, words in edges]
+    # Each with another block under the same token, so that a lost WRITE shows in the memory.
+    listed = [(1, [7 + number], play) for number, play in enumerate(plays)]
+    return listed + [(sub, words, calm) for sub, words in edges]
 
 
 def drawn_runs(count):
@@ -124,7 +127,7 @@ def drawn_runs(count):
 
 @lru_cache(maxsize=None)
 def all_runs():
-    return listed_runs() + list(drawn_runs(400))
+    return listed_runs() + list(drawn_runs(399))
 
 
 def packed(sub_address, block, damages):
@@ -161,10 +164,13 @@ def stdout():
 def self_test():
     """Raises AssertionError where a verdict does not mean what it has to, or one of the ends is missing."""
     ends = set()
-    for done, refused, before, after, wanted in outcomes():
+    for (*_, damages), (done, refused, before, after, wanted) in zip(all_runs(), outcomes()):
+        calm = damages == (UNDAMAGED, UNDAMAGED, UNDAMAGED)
         whole = len(wanted) == MEMORY and after == wanted
         if not whole and (done or after != before):
             raise AssertionError("a verdict that is not true")
+        if calm and len(wanted) == MEMORY and not done:
+            raise AssertionError("undamaged and inside, but not Done")
         ends.add((done, refused, after != before))
     wanted_ends = {(True, False, True), (True, False, False), (False, False, True), (False, False, False), (False, True, False)}
     if not wanted_ends <= ends:

@@ -1,5 +1,5 @@
 // Plays the trace program's records of kinds 1 to 3 at the pins: each word goes through the bit shifter bit by bit, from bit
-// 15, and left-over bits go as zeros. The lines are the trace program's.
+// 15, and left-over bits go as zeros. Any other kind is refusal 9. The lines are as the trace program's.
 ghost use Prim.Native.Nat.{_≤_};
 use libc::STDIN_FILENO;
 use libc::STDOUT_FILENO;

@@ -18,7 +18,7 @@ use Rattle.card.proofs.Laws.{InRange}
 use Rattle.card.proofs.Sound.{not-out}
 use Rattle.delivery.specs.Play.{after, answers, listed, refusals}
 
--- no message is open, and the memory is the card's
+-- no message is open and the message is empty, the state is in range, and the memory is the card's
 pub record Idle (c : Card) (memory : List ℕ) : Type 0 where
   pub ranged : InRange c
   pub closed : c .port .message ≡ emptied false

@@ -153,7 +153,7 @@ fn put(buffer: &mut [u8], place: usize, text: Text)
 }
 
 // Puts a line at a place of a buffer, and gives the place behind it. Where there is no room for the longest line, nothing is
-// put and the place stays: the caller empties the buffer first.
+// put and the place stays.
 pub fn put_line(buffer: &mut [u8], place: usize, line: Line) -> usize
     ensures { λ r. ⌜ r ≡ lineEnd (length (now (buffer .entry))) place line ⌝ }
     ensures { λ _. ⌜ now (buffer .exit) ≡ linePut (now (buffer .entry)) place line ⌝ }

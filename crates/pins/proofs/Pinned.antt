@@ -235,7 +235,7 @@ module _ (c : Card) (memory : List ℕ) (idle : Idle c memory) (s : Shifter) (in
 pub pinned : (s : Shifter) → s .count ≤ 15 → Hearing (atPins s)
 pinned s in-range c memory idle line way = at-pins c memory idle s in-range line way
 
--- ---- demand 3 at the pins, whatever the shifter holds before each of the three messages
+-- ---- demand 3 at the pins, whatever the shifter holds, in range, before each of the three messages
 
 pub delivery-at-pins : (s : ℕ → Shifter) → ((n : ℕ) → s n .count ≤ 15) → Delivery (λ n. atPins (s n))
 delivery-at-pins s in-range = delivery-by (λ n. atPins (s n)) (λ n. pinned (s n) (in-range n))
