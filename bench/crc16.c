@@ -1,4 +1,4 @@
-/* The CRC-16 of payload bytes three ways, as one would write them in C: what bench.c measures the proved one against. */
+/* The CRC-16 of payload bytes three ways, as one would write them in C: what payload.c measures the proved one against. */
 #include "crc16.h"
 
 /* Four bits at a time, through the sixteen remainders. */

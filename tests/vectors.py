@@ -9,20 +9,22 @@ from pathlib import Path
 
 sys.dont_write_bytecode = True  # leave no __pycache__ in the repository
 
-from second import known, sure, trace, vector_records
+from second import known, refused_calls, sure, trace, vector_records
 
 # Each file and its maker, which gives the number of records and the content.
 FILES = [
-    ("crates/vectors/stdin", vector_records.stdin),
-    ("crates/vectors/stdout", vector_records.stdout),
+    ("crates/token_vectors/stdin", vector_records.stdin),
+    ("crates/token_vectors/stdout", vector_records.stdout),
     ("crates/trace/stdin", trace.example_stdin),
     ("crates/trace/stdout", trace.example_stdout),
-    ("crates/clocks/stdin", trace.example_stdin),
-    ("crates/clocks/stdout", trace.example_stdout),
-    ("crates/loads/stdin", sure.stdin),
-    ("crates/loads/stdout", sure.stdout),
-    ("crates/traces/stdin", trace.traces_stdin),
-    ("crates/traces/stdout", trace.traces_stdout),
+    ("crates/trace_pins/stdin", trace.pins_stdin),
+    ("crates/trace_pins/stdout", trace.pins_stdout),
+    ("crates/refused_calls/stdin", refused_calls.stdin),
+    ("crates/refused_calls/stdout", refused_calls.stdout),
+    ("crates/sure_writes/stdin", sure.stdin),
+    ("crates/sure_writes/stdout", sure.stdout),
+    ("crates/trace_vectors/stdin", trace.vectors_stdin),
+    ("crates/trace_vectors/stdout", trace.vectors_stdout),
     ("examples/document-01.txt", lambda: trace.shown("document-01")),
     ("examples/accident.txt", lambda: trace.shown("accident")),
 ]
@@ -64,6 +66,7 @@ def main(arguments):
     known.self_test()
     trace.self_test()
     sure.self_test()
+    refused_calls.self_test()
     handle = write if arguments else compare
     results = [handle(path, *maker()) for path, maker in FILES]
     return 0 if all(results) else 1

@@ -1,15 +1,12 @@
-"""The card of document 01, section "The card"."""
+"""The card of document 01, section "The card": whole messages, each judged and answered at once."""
+
+from typing import NamedTuple
 
 from .checks import crc16
 from .tokens import (
     CONFIG_READ, CONFIG_WRITE, READ, READBACK, RESET, ROWS, SYNCH, TICK, WRITE,
-    command_marks, command_token, read_command, response_token,
+    command_marks, command_token, field, read_command, response_token,
 )
-
-ROOM = 67
-MOST_MEMORY = 32768
-
-SIZE, STATE, OPEN, CLOSED, ARGUMENT = 1, 2, 3, 4, 5
 
 # The status bits in the order ME, AR, IC.
 CLEAN, ME, AR, IC = (0, 0, 0), (1, 0, 0), (0, 1, 0), (0, 0, 1)
@@ -17,205 +14,174 @@ CLEAN, ME, AR, IC = (0, 0, 0), (1, 0, 0), (0, 1, 0), (0, 0, 1)
 CHECKED = (SYNCH, WRITE, CONFIG_WRITE, CONFIG_READ)
 
 
-def power_up(size):
-    """The refusal number, and the card at power-up."""
-    if not 1 <= size <= MOST_MEMORY:
-        return SIZE, Card(0)
-    return 0, Card(size)
+class Card(NamedTuple):
+    """The card between two messages; Card(size) is the card at power-up."""
+
+    size: int
+    time: int = 0
+    write_base: int = 0
+    read_base: int = 0
+    status: tuple = CLEAN
+    stf: int = 0
+    module_state: int = 0
+    last_token: tuple = command_token(RESET, 0, 0)
 
 
-def word_number(length):
-    """How many words a message with this payload length has."""
-    return length + 3 if length else 2
+def with_module(card, value):
+    """The card after the module call: bit 4 of the value is STF, bits 3-0 are the module state."""
+    return card._replace(stf=field(value, 4, 4), module_state=field(value, 3, 0))
 
+
+def whole_message(card, words, left, memories):
+    """The words sent in a message, and the card and the memory after it; the card has the status bits that it set.
+
+    words has all whole words that came, and left is the number of left-over bits. memories has the memory as it is in
+    the call that sends each word and, last, at release. A word is sent for each of them, one more than came: the first
+    bits of the last one go out while the left-over bits come in.
+    """
+    memory = memories[-1]
+    sent = words_sent(card, words, memories)
+    if not words and not left:
+        return sent, card, memory
+    status = judge(card, words, left)
+    if status != CLEAN:
+        return sent, card._replace(status=status), memory
+    return sent, card_after(card, words), memory_after(card, words, memory)
+
+
+# Judgement, steps 1 to 5. Each gives the status bits that it sets, or CLEAN, and is asked where those before it passed.
+
+def good_token(card, words, left):
+    """Step 1."""
+    prefix_right, spare_right, check_right = command_marks(*words[:2])
+    return int(not check_right), 0, int(not (prefix_right and spare_right))
+
+
+def as_row_asks(card, words, left):
+    """Step 2."""
+    code, length, sub_address = command(words)
+    if code not in ROWS:
+        return IC
+    least, most, last = ROWS[code]
+    if not least <= length <= most:
+        return IC
+    if sub_address > last:
+        return AR if code == TICK else IC
+    return CLEAN
+
+
+def inside_memory(card, words, left):
+    """Step 3."""
+    code, length, _ = command(words)
+    return AR if code in (WRITE, READ) and start(card, words) + length > card.size else CLEAN
+
+
+def whole_words(card, words, left):
+    """Step 4."""
+    _, length, _ = command(words)
+    wanted = length + 3 if length else 2
+    return CLEAN if len(words) == wanted and not left else ME
+
+
+def good_payload(card, words, left):
+    """Step 5."""
+    code, length, _ = command(words)
+    if code not in CHECKED or not length:
+        return CLEAN
+    *payload, check = words[2:]
+    return CLEAN if crc16(payload) == check else ME
+
+
+TOKEN_STEPS = (good_token, as_row_asks, inside_memory)
+STEPS = (*TOKEN_STEPS, whole_words, good_payload)
+
+
+def first_failing(steps, card, words, left):
+    """The status bits of the first failing step, CLEAN where all pass."""
+    for step in steps:
+        status = step(card, words, left)
+        if status != CLEAN:
+            return status
+    return CLEAN
+
+
+def judge(card, words, left):
+    """The status bits that a message of at least one bit sets, CLEAN where it is accepted."""
+    if len(words) < 2:
+        return ME  # there is no whole token: step 4 alone
+    return first_failing(STEPS, card, words, left)
+
+
+# Parts of a message whose token is good.
+
+def command(words):
+    return read_command(*words[:2])
+
+
+def start(card, words):
+    """Where the words of READ or WRITE begin in the memory."""
+    code, _, sub_address = command(words)
+    return sub_address + (card.read_base if code == READ else card.write_base)
+
+
+# Words sent.
+
+def words_sent(card, words, memories):
+    """A word for each memory, that of the call which sends it."""
+    token = response_token(card.stf, *card.status, card.module_state)
+    # Words 1 and 2 depend on no word that came, those behind them on the first two: word k only on words before k.
+    zeros = [0] * len(memories)
+    return [*token, *payload_sent(card, words, memories[2:]), *zeros][:len(memories)]
+
+
+def payload_sent(card, words, memories):
+    """What READ or READBACK sends from the third word on."""
+    if len(words) < 2 or first_failing(TOKEN_STEPS, card, words, 0) != CLEAN:
+        return []
+    code, length, _ = command(words)
+    if code == READ:
+        # Where the message ends before its payload does, there are fewer memories, and none that would send the check.
+        place = start(card, words)
+        payload = [memory[place + number] for number, memory in enumerate(memories[:length])]
+    elif code == READBACK:
+        payload = card.last_token
+    else:
+        return []
+    # READ of length 0 has no check word; the CRC-16 of nothing is the 0x0000 that stands there.
+    return [*payload, crc16(payload)]
+
+
+# Step 6: what an accepted message does.
 
 def join(words):
     """The words as one number, first word highest."""
-    number = 0
-    for word in words:
-        number = number << 16 | word
-    return number
+    return sum(word << 16 * place for place, word in enumerate(reversed(words)))
 
 
-class Card:
-    def __init__(self, size):
-        self.size = size
-        self.time = 0
-        self.write_base = 0
-        self.read_base = 0
-        self.status = CLEAN
-        self.stf = 0
-        self.module_state = 0
-        self.last_token = command_token(RESET, 0, 0)
-        self.open = False
-        self.empty()
+def effect(card, code, sub_address, payload):
+    """What a command changes in the card beside status and last token."""
+    if code == RESET:
+        return {"write_base": 0, "read_base": 0}
+    if code == SYNCH:
+        return {"time": join(payload)}
+    if code == TICK:
+        return {"time": (card.time + 2 ** sub_address) % 2 ** 64}
+    if code == CONFIG_WRITE:
+        return {"write_base": join(payload)}
+    if code == CONFIG_READ:
+        return {"read_base": join(payload)}
+    return {}
 
-    def empty(self):
-        """No message: room all zero, count 0, check 0."""
-        self.room = [0] * ROOM
-        self.count = 0
-        self.check = 0
 
-    # The calls.
+def card_after(card, words):
+    code, length, sub_address = command(words)
+    changes = effect(card, code, sub_address, words[2:2 + length])
+    return card._replace(status=CLEAN, last_token=tuple(words[:2]), **changes)
 
-    def select(self):
-        refusal = self.state_refusal() or (self.open and OPEN)
-        if refusal:
-            return (refusal,)
-        self.empty()
-        self.open = True
-        return (0,)
 
-    def module(self, stf, state):
-        refusal = self.state_refusal() or (self.open and OPEN) or (state > 15 and ARGUMENT)
-        if refusal:
-            return (refusal,)
-        self.stf = stf
-        self.module_state = state
-        return (0,)
-
-    def next_word(self, memory):
-        """The refusal number, and the word that the card sends next; changes nothing."""
-        refusal = self.message_refusal(memory)
-        if refusal:
-            return refusal, 0
-        return 0, self.sent(memory)
-
-    def word(self, memory, taken):
-        refusal, answer = self.next_word(memory)
-        if refusal:
-            return refusal, 0
-        if self.sends_read_word():
-            self.check = crc16([answer], self.check)
-        if self.count < ROOM:
-            self.room[self.count] = taken
-            self.count += 1
-        return 0, answer
-
-    def release(self, memory, left):
-        refusal = self.message_refusal(memory) or (left > 15 and ARGUMENT)
-        if refusal:
-            return (refusal,)
-        if self.count or left:
-            self.status = self.judge_message(left)
-            if self.status == CLEAN:
-                self.act(memory)
-        self.empty()
-        self.open = False
-        return (0,)
-
-    # Refusals that several calls share.
-
-    def state_refusal(self):
-        lawful = (
-            1 <= self.size <= MOST_MEMORY
-            and 0 <= self.count <= ROOM
-            and 0 <= self.module_state <= 15
-        )
-        return 0 if lawful else STATE
-
-    def message_refusal(self, memory):
-        return (
-            self.state_refusal()
-            or (len(memory) != self.size and SIZE)
-            or (not self.open and CLOSED)
-            or 0
-        )
-
-    # Judgement: the status bits of the first failing step.
-
-    def judge_token(self):
-        """Steps 1 to 3, for a message of two words or more."""
-        prefix_right, spare_right, check_right = command_marks(*self.room[:2])
-        marks = (int(not check_right), 0, int(not (prefix_right and spare_right)))
-        if marks != CLEAN:
-            return marks
-        return self.judge_row()
-
-    def judge_row(self):
-        """Step 2, then step 3."""
-        code, length, sub_address = self.command()
-        if code not in ROWS:
-            return IC
-        least, most, last = ROWS[code]
-        if not least <= length <= most:
-            return IC
-        if sub_address > last:
-            return AR if code == TICK else IC
-        if code in (WRITE, READ) and self.place(code, sub_address) + length > self.size:
-            return AR
-        return CLEAN
-
-    def judge_message(self, left):
-        """Steps 1 to 5 at release, for a message of at least one bit."""
-        if self.count < 2:
-            return ME
-        failed = self.judge_token()
-        if failed != CLEAN:
-            return failed
-        code, length, _ = self.command()
-        if self.count != word_number(length) or left:
-            return ME
-        if code in CHECKED and length and crc16(self.payload()) != self.room[2 + length]:
-            return ME
-        return CLEAN
-
-    # Parts of the open message.
-
-    def command(self):
-        return read_command(*self.room[:2])
-
-    def payload(self):
-        _, length, _ = self.command()
-        return self.room[2:2 + length]
-
-    def place(self, code, sub_address):
-        return sub_address + (self.read_base if code == READ else self.write_base)
-
-    # Effects and words sent.
-
-    def act(self, memory):
-        """Step 6 after the status: the effect, and the last token."""
-        code, length, sub_address = self.command()
-        if code == RESET:
-            self.write_base = self.read_base = 0
-        elif code == SYNCH:
-            self.time = join(self.payload())
-        elif code == TICK:
-            self.time = (self.time + (1 << sub_address)) % (1 << 64)
-        elif code == WRITE:
-            start = self.place(code, sub_address)
-            memory[start:start + length] = self.payload()
-        elif code == CONFIG_WRITE:
-            self.write_base = join(self.payload())
-        elif code == CONFIG_READ:
-            self.read_base = join(self.payload())
-        self.last_token = tuple(self.room[:2])
-
-    def passed(self):
-        """The code and length of a token that passes steps 1 to 3, else None and 0."""
-        if self.count < 2 or self.judge_token() != CLEAN:
-            return None, 0
-        return self.command()[:2]
-
-    def sends_read_word(self):
-        code, length = self.passed()
-        return code == READ and self.count - 2 < length
-
-    def sent(self, memory):
-        if self.count < 2:
-            return response_token(self.stf, *self.status, self.module_state)[self.count]
-        code, length = self.passed()
-        number = self.count - 2
-        if code == READ:
-            return self.sent_by_read(memory, number, length)
-        if code == READBACK and number < 3:
-            return (*self.last_token, crc16(self.last_token))[number]
-        return 0
-
-    def sent_by_read(self, memory, number, length):
-        if number < length:
-            _, _, sub_address = self.command()
-            return memory[self.place(READ, sub_address) + number]
-        # A READ of length 0 has no check word.
-        return self.check if number == length and length else 0
+def memory_after(card, words, memory):
+    code, length, _ = command(words)
+    if code != WRITE:
+        return memory
+    place = start(card, words)
+    return [*memory[:place], *words[2:2 + length], *memory[place + length:]]

@@ -17,12 +17,9 @@ def number(bit_list):
     return value
 
 
-def crc(polynomial, width, message_bits, start=0):
-    """The remainder of the message, with width zeros behind it, by the polynomial."""
+def crc(polynomial, width, message_bits):
+    """The remainder of the message, with width zeros behind it, by the polynomial; the start value is 0."""
     rest = list(message_bits) + [0] * width
-    # A start value counts as if it were added to the first bits of the dividend.
-    for place, bit in enumerate(bits(start, width)):
-        rest[place] ^= bit
     terms = [term for term, bit in enumerate(bits(polynomial, width + 1)) if bit]
     for place in range(len(message_bits)):
         if rest[place]:
@@ -36,7 +33,7 @@ def crc4(word1, word2):
     return crc(CRC4_POLYNOMIAL, 4, bits(word1, 16) + bits(word2, 16)[:12])
 
 
-def crc16(words, start=0):
+def crc16(words):
     """The CRC-16 of payload words in order, each from bit 15."""
     message_bits = [bit for word in words for bit in bits(word, 16)]
-    return crc(CRC16_POLYNOMIAL, 16, message_bits, start)
+    return crc(CRC16_POLYNOMIAL, 16, message_bits)

@@ -1,10 +1,12 @@
 """The values printed in document 01, and the test of this program against them."""
 
+from .card import AR, CLEAN, IC, ME, Card, judge, whole_message
 from .checks import crc4, crc16
 from .tokens import (
     CONFIG_WRITE, READ, READBACK, RESET, ROWS, SYNCH, TICK, WRITE,
     command_marks, command_token, read_command, read_response, response_marks, response_token,
 )
+from .trace_records import read, write
 
 # (code, length, sub-address), (word 1, word 2)
 COMMANDS = [
@@ -35,6 +37,17 @@ CHECKS = [
     ([0x0001], 0x8005),
     ([0x0002], 0x800F),
     ([0x0003], 0x000A),
+]
+
+# The words of a message, and the status bits that it sets: what stands under "Run and compared".
+JUDGED = [
+    ([0x48C0, 0x5033], AR),
+    ([0x64C0, 0x4034], IC),
+    (read(1, 255), CLEAN),
+    (read(2, 255), AR),
+    (write(255, []), CLEAN),
+    (write(0, [1])[:-1], ME),
+    ([*write(0, [1]), 0], ME),
 ]
 
 GOOD = (True, True, True)
@@ -77,9 +90,26 @@ def test_table():
     agree("last index of TICK", ROWS[TICK][2], 63)
 
 
+def test_judgement():
+    for words, status in JUDGED:
+        agree(f"status bits after {words}", judge(Card(256), words, 0), status)
+
+
+def test_changing_memory():
+    """What no trace shows: the memory is another one in each call of a message."""
+    memories = [[10 * call + place for place in range(4)] for call in range(6)]
+    sent, _, memory = whole_message(Card(4), read(2, 1), 0, memories)
+    agree("words sent by READ", sent[2:], [21, 32, crc16([21, 32]), 0])
+    agree("memory after READ", memory, [50, 51, 52, 53])
+    _, _, memory = whole_message(Card(4), write(1, [7, 8]), 0, memories)
+    agree("memory after WRITE", memory, [50, 7, 8, 53])
+
+
 def self_test():
     """Raises AssertionError where a value of document 01 is not met."""
     test_commands()
     test_responses()
     test_checks()
     test_table()
+    test_judgement()
+    test_changing_memory()

@@ -3,62 +3,105 @@
 import re
 from functools import lru_cache
 from pathlib import Path
+from typing import NamedTuple
 
 from . import example
-from .card import power_up
+from .card import Card, whole_message, with_module, words_sent
 from .trace_drawn import drawn_traces
-from .trace_listed import listed_traces
+from .trace_listed import (
+    damaged_writes, dropped_writes, first_failing_step, listed_traces, most_words, readbacks, short_messages,
+)
 from .trace_records import MODULE, RELEASE, SELECT, WORD
 
 EXAMPLES = Path(__file__).resolve().parents[2] / "examples"
 MEMORY_WORDS = 256
 RECORD_BYTES = 4
-RECORD = 9
+MOST_LEFT = 15
+MOST_MODULE = 31
+
+OPEN, CLOSED, ARGUMENT, RECORD = 3, 4, 5, 9
+
+# The kind of a record that is unfinished, or whose kind is unknown.
+NO_KIND = 0
+
+# Open and Closed come before Argument. A release inside and a module record outside are refused only above a limit.
+REFUSED_INSIDE = {SELECT: OPEN, MODULE: OPEN, RELEASE: ARGUMENT, NO_KIND: RECORD}
+REFUSED_OUTSIDE = {WORD: CLOSED, RELEASE: CLOSED, MODULE: ARGUMENT, NO_KIND: RECORD}
 
 
-class Trace:
-    """The card and memory of one run of the trace program."""
+class Record(NamedTuple):
+    kind: int
+    value: int = 0
+    word: int = 0
 
-    def __init__(self):
-        _, self.card = power_up(MEMORY_WORDS)
-        self.memory = [0] * MEMORY_WORDS
 
-    def select(self, value, word):
-        (refusal,) = self.card.select()
-        return refusal, "S"
+def record_of(part):
+    """The record of these bytes, fewer than four at the end of the input."""
+    if len(part) < RECORD_BYTES or part[0] not in (SELECT, WORD, RELEASE, MODULE):
+        return Record(NO_KIND)
+    kind, value, high, low = part
+    return Record(kind, value, high << 8 | low)
 
-    def word(self, value, word):
-        refusal, answer = self.card.word(self.memory, word)
-        return refusal, f"W {word:04X} {answer:04X}"
 
-    def release(self, value, word):
-        (refusal,) = self.card.release(self.memory, value)
-        return refusal, "R {}{}{}".format(*self.card.status)
+def ends_message(record):
+    return record.kind == RELEASE and record.value <= MOST_LEFT
 
-    def module(self, value, word):
-        # A value above 31 keeps a bit above the state's four, so the card refuses it.
-        (refusal,) = self.card.module(value >> 4 & 1, value & ~0x10)
-        return refusal, "M"
 
-    def line(self, record):
-        """The line for one record, or for what is left of the last one."""
-        calls = {SELECT: self.select, WORD: self.word, RELEASE: self.release, MODULE: self.module}
-        if len(record) < RECORD_BYTES or record[0] not in calls:
-            return f"E {RECORD}"
-        kind, value, high, low = record
-        refusal, line = calls[kind](value, high << 8 | low)
-        return f"E {refusal}" if refusal else line
+def groups(records):
+    """The records of each message from its select on together, and each record outside a message alone."""
+    found, inside = [], False
+    for record in records:
+        if inside:
+            found[-1].append(record)
+            inside = not ends_message(record)
+        else:
+            found.append([record])
+            inside = record.kind == SELECT
+    return found
 
-    def last_line(self):
-        return f"T {self.card.time:016X}"
+
+def inside_lines(records, sent):
+    """The lines of the records between select and release."""
+    answers = iter(sent)
+    for kind, _, word in records:
+        if kind == WORD:
+            yield f"W {word:04X} {next(answers):04X}"
+        else:
+            yield f"E {REFUSED_INSIDE[kind]}"
+
+
+def message_lines(card, memory, records):
+    """The lines of a message, and the card and memory after it."""
+    _, *inside = records
+    words = [record.word for record in inside if record.kind == WORD]
+    # No record changes the memory inside a message, so it is the same in every call.
+    if not ends_message(records[-1]):
+        sent = words_sent(card, words, [memory] * len(words))
+        return ["S", *inside_lines(inside, sent)], card, memory
+    *inside, release = inside
+    sent, card, memory = whole_message(card, words, release.value, [memory] * (len(words) + 1))
+    return ["S", *inside_lines(inside, sent), "R {}{}{}".format(*card.status)], card, memory
+
+
+def outside_line(card, record):
+    """The line of a record outside a message, and the card after it."""
+    if record.kind == MODULE and record.value <= MOST_MODULE:
+        return "M", with_module(card, record.value)
+    return f"E {REFUSED_OUTSIDE[record.kind]}", card
 
 
 def replay(records):
     """The whole output of the trace program for these input bytes."""
-    trace = Trace()
     starts = range(0, len(records), RECORD_BYTES)
-    lines = [trace.line(records[start:start + RECORD_BYTES]) for start in starts]
-    return "".join(line + "\n" for line in [*lines, trace.last_line()])
+    card, memory, lines = Card(MEMORY_WORDS), [0] * MEMORY_WORDS, []
+    for group in groups(record_of(records[start:start + RECORD_BYTES]) for start in starts):
+        if group[0].kind == SELECT:
+            added, card, memory = message_lines(card, memory, group)
+            lines += added
+        else:
+            line, card = outside_line(card, group[0])
+            lines.append(line)
+    return "".join(line + "\n" for line in [*lines, f"T {card.time:016X}"])
 
 
 # The stored files; each maker gives the number of records, lines or traces, and the content.
@@ -71,6 +114,18 @@ def example_stdout():
     return example.OUTPUT.count("\n"), example.OUTPUT.encode()
 
 
+def pins_stdin():
+    """The example, and messages of every shape: at the pins their bits come one by one, with up to 15 left over."""
+    parts = [example.RECORDS, short_messages(), readbacks(), dropped_writes(), damaged_writes(), first_failing_step(), most_words()]
+    records = b"".join(parts)
+    return len(records) // RECORD_BYTES, records
+
+
+def pins_stdout():
+    output = replay(pins_stdin()[1])
+    return output.count("\n"), output.encode()
+
+
 @lru_cache(maxsize=None)
 def all_traces():
     return listed_traces() + drawn_traces()
@@ -81,12 +136,12 @@ def all_outputs():
     return [replay(records) for records in all_traces()]
 
 
-def traces_stdin():
+def vectors_stdin():
     parts = [len(records).to_bytes(4, "big") + records for records in all_traces()]
     return len(parts), b"".join(parts)
 
 
-def traces_stdout():
+def vectors_stdout():
     parts = [f"# {number}\n{output}" for number, output in enumerate(all_outputs(), 1)]
     return len(parts), "".join(parts).encode()
 

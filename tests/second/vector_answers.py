@@ -1,4 +1,4 @@
-"""The line of crates/vectors/stdout that answers each record of crates/vectors/stdin."""
+"""The line of crates/token_vectors/stdout that answers each record of crates/token_vectors/stdin."""
 
 from .checks import crc4, crc16
 from .tokens import (

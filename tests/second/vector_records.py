@@ -1,4 +1,4 @@
-"""The records of crates/vectors/stdin: payloads, tokens, tokens to build, rows to look up."""
+"""The records of crates/token_vectors/stdin: payloads, tokens, tokens to build, rows to look up."""
 
 from functools import lru_cache
 from itertools import product
@@ -182,11 +182,11 @@ def record_bytes(kind, words):
 
 
 def stdin():
-    """(number of records, content) of crates/vectors/stdin."""
+    """(number of records, content) of crates/token_vectors/stdin."""
     return len(records()), b"".join(record_bytes(*record) for record in records())
 
 
 def stdout():
-    """(number of records, content) of crates/vectors/stdout."""
+    """(number of records, content) of crates/token_vectors/stdout."""
     lines = [vector_answers.line(*record) + "\n" for record in records()]
     return len(lines), "".join(lines).encode("ascii")

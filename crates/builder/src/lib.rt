@@ -5,8 +5,10 @@ ghost use mathlib.Core.List.{[], _∷_, _++_};
 ghost use Prim.Native.Nat.{_+_, _≤_};
 ghost use lib.ListN.{length, replicate, take, drop};
 ghost use Rattle.token.specs.Command.{command, commandToken, commandFits};
-ghost use Rattle.controller.specs.Messages.{isReading, withCheckWord, payload, message, blockFits, buildRefusal, messageBuilt, over, bufferAfter};
+ghost use Rattle.controller.specs.Builder.{isReading, withCheckWord, payload, message, blockFits, buildRefusal, messageBuilt, bufferAfter};
+ghost use Rattle.bits.specs.Buffers.{over};
 use controller::MessageBuilt;
+use rules::Name;
 use rules::refusal;
 use token::command::Command;
 use token::command::CommandBuilt;
@@ -16,7 +18,7 @@ use token::command::CommandToken;
 fn is_reading(code: u8) -> bool
     ensures { λ r. ⌜ r ≡ isReading code ⌝ }
 {
-    (code == rules::READ.code) | (code == rules::READBACK.code)
+    rules::is_command(code, Name::Read) | rules::is_command(code, Name::Readback)
 }
 
 fn block_fits(fields: Command, count: usize) -> bool

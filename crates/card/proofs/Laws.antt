@@ -1,10 +1,10 @@
--- What refusals and verdicts tell that are not there.
+-- What refusals and judgements tell that are not there.
 -- Assumes nothing.
 use Prim.Native.Nat.{ℕ, _+_, _≤_}
 use mathlib.Core.Bool.{Bool, true, false, cond, not, _||_}
 use mathlib.Core.Path.{_≡_, refl, sym, ap, ap₂, _∙_}
 use native.Mathlib.Omega.{arith}
-use borrow.Author.Tests.{eqb-true, ltb-false}
+use borrow.Author.Tests.{eqb-true, leb-true, ltb-false}
 use lib.Dec.{eqb, leb, ltb}
 use lib.ListN.{length, getD, length-take}
 use lib.Seq.{getD-take}
@@ -15,11 +15,12 @@ use Rattle.judge.proofs.Laws.{never, token-passed, tick-index, write-inside, Ac
 use Rattle.token.specs.Command.{commandFields}
 use Rattle.token.specs.declared.command.CommandToken.{CommandToken}
 use Rattle.token.specs.Response.{anySet}
-use Rattle.card.specs.Acting.{received, verdict}
-use Rattle.card.specs.Card.{wordRefusal, releaseRefusal}
-use Rattle.card.specs.Sending.{word1, word2, tokenHeard, fields, heardStatus}
+use Rattle.card.specs.Release.{received, judged, releaseRefusal}
+use Rattle.card.specs.Card.{moduleRefusal, wordRefusal}
+use Rattle.card.specs.Exchange.{word1, word2, tokenHeard, fields, heardStatus}
 use Rattle.card.specs.State.{sized, outOfRange}
 use Rattle.card.specs.declared.Card.{Card}
+use Rattle.rules.proofs.Cases.{by-number}
 
 -- ---- ranges
 
@@ -41,6 +42,29 @@ in-range c h = go (sized (c .size)) refl (ltb 67 (c .port .message .count)) refl
 
 -- ---- a call that is not refused
 
+-- refusals in order: where the number is None, the first test fails, and the number behind it is None
+fails : (t : Bool) {n m : ℕ} → (n ≡ refusal.None → ⊥) → cond t n m ≡ refusal.None → (t ≡ false) × (m ≡ refusal.None)
+fails true r h = absurd (r h)
+fails false r h = (refl, h)
+
+-- the same for a test that refuses where it fails
+holds : (t : Bool) {n m : ℕ} → (m ≡ refusal.None → ⊥) → cond t n m ≡ refusal.None → (t ≡ true) × (n ≡ refusal.None)
+holds true r h = (refl, h)
+holds false r h = absurd (r h)
+
+pub record Settable (c : Card) (state : ℕ) : Type 0 where
+  pub ranged : outOfRange c ≡ false
+  pub closed : c .port .message .opened ≡ false
+  pub small : state ≤ 15
+
+pub settable : (c : Card) (state : ℕ) → moduleRefusal c state ≡ refusal.None → Settable c state
+unfolding moduleRefusal
+settable c state h =
+    let (ranged, h₁) = fails (outOfRange c) (omega arith) h in
+    let (closed, h₂) = fails (c .port .message .opened) (omega arith) h₁ in
+    let (small, h₃) = holds (leb state 15) (omega arith) h₂ in
+    record { ranged = ranged; closed = closed; small = leb-true state 15 small }
+
 pub record Lent (c : Card) (size : ℕ) : Type 0 where
   pub ranged : outOfRange c ≡ false
   pub same : size ≡ c .size
@@ -48,22 +72,15 @@ pub record Lent (c : Card) (size : ℕ) : Type 0 where
 
 pub lent : (c : Card) (size : ℕ) → wordRefusal c size ≡ refusal.None → Lent c size
 unfolding wordRefusal
-lent c size h = go (outOfRange c) refl (eqb size (c .size)) refl (c .port .message .opened) refl h
-  where
-    go : (r : Bool) → outOfRange c ≡ r → (s : Bool) → eqb size (c .size) ≡ s → (o : Bool) → c .port .message .opened ≡ o
-        → cond r refusal.State (cond s (cond o refusal.None refusal.Closed) refusal.Size) ≡ refusal.None → Lent c size
-    go true er s es o eo h = absurd (omega arith)
-    go false er true es true eo h = record { ranged = er; same = eqb-true size (c .size) es; opened = eo }
-    go false er true es false eo h = absurd (omega arith)
-    go false er false es o eo h = absurd (omega arith)
+lent c size h =
+    let (ranged, h₁) = fails (outOfRange c) (omega arith) h in
+    let (same, h₂) = holds (eqb size (c .size)) (omega arith) h₁ in
+    let (opened, h₃) = holds (c .port .message .opened) (omega arith) h₂ in
+    record { ranged = ranged; same = eqb-true size (c .size) same; opened = opened }
 
 pub released-lent : (c : Card) (size left : ℕ) → releaseRefusal c size left ≡ refusal.None → wordRefusal c size ≡ refusal.None
 unfolding releaseRefusal
-released-lent c size left h = go (eqb (wordRefusal c size) refusal.None) refl h
-  where
-    go : (t : Bool) → eqb (wordRefusal c size) refusal.None ≡ t → cond t (cond (leb left 15) refusal.None refusal.Argument) (wordRefusal c size) ≡ refusal.None → wordRefusal c size ≡ refusal.None
-    go true e h = eqb-true _ _ e
-    go false e h = h
+released-lent c size left = by-number (λ n. n ≡ refusal.None → wordRefusal c size ≡ refusal.None) (wordRefusal c size) (λ r h. h) (λ q h. q)
 
 -- ---- the token received
 
@@ -79,9 +96,9 @@ length-small c = omega arith
 
 -- ---- an accepted message
 
-module _ (c : Card) (left : ℕ) (h : anySet (verdict c left) ≡ false) where
+module _ (c : Card) (left : ℕ) (h : anySet (judged c left) ≡ false) where
   message-accepted : Accepted (c .size) (c .bases) (received (c .port .message)) left
-  unfolding verdict
+  unfolding judged
   message-accepted = accepted (c .size) (c .bases) (received (c .port .message)) left h
 
   -- its token is the one that steps 1 to 3 judged

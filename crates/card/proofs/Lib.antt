@@ -1,5 +1,9 @@
-pub mod Held
+pub mod Cases
+pub mod Closed
+pub mod Holding
 pub mod Laws
 pub mod Ranges
+pub mod Refusals
 pub mod Sound
+pub mod Stays
 pub mod Unique

@@ -1,5 +1,6 @@
-pub mod Acting
 pub mod Card
+pub mod Exchange
+pub mod Release
 pub mod Run
-pub mod Sending
 pub mod State
+pub mod Whole

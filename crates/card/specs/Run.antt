@@ -5,7 +5,9 @@ use mathlib.Core.List.{List}
 use mathlib.Core.Path.{_≡_}
 use Rattle.rules.specs.Refusals as refusal
 use Rattle.card.specs.declared.Card.{Card}
-use Rattle.card.specs.Card.{powered, selected, moduleSet, exchanged, released}
+use Rattle.card.specs.Card.{powered, selected, moduleSet}
+use Rattle.card.specs.Exchange.{exchanged}
+use Rattle.card.specs.Release.{released}
 
 pub data Run : Card → Type 0 where
   PowerUp : (size : ℕ) → powered size .refusal ≡ refusal.None → Run (powered size .card)

@@ -40,6 +40,17 @@ withPort c p = record {
 abbrev pub withMessage : Card → Message → Card
 withMessage c m = withPort c (record { status = c .port .status; last = c .port .last; message = m })
 
+-- the card with another STF and module state
+abbrev pub withModule : Card → Bool → ℕ → Card
+withModule c stf state = record {
+  size = c .size;
+  time = c .time;
+  bases = c .bases;
+  stf = stf;
+  «module_state» = state;
+  port = c .port;
+}
+
 -- its memory is 1 to 32,768 words
 unfoldable pub sized : ℕ → Bool
 sized n = leb 1 n && leb n 32768

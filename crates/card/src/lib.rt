@@ -1,7 +1,8 @@
 // The SPI-2 card: its state goes in by value and comes back. Memory is lent with each call that needs it.
+// Its word and release calls stand in the crates `exchange` and `release`; all definitions of the card stand in this crate's specs.
 ghost use mathlib.Core.Path.{_≡_};
 ghost use Rattle.card.specs.Card.{powered, selected, moduleRefusal, moduleSet, wordRefusal};
-ghost use Rattle.card.specs.Sending.{tokenHeard};
+ghost use Rattle.card.specs.Exchange.{tokenHeard};
 ghost use Rattle.card.specs.State.{emptied, withMessage, fresh, sized, outOfRange};
 use judge::Bases;
 use rules::refusal;
@@ -33,7 +34,7 @@ pub struct Card {
 }
 
 // A refusal's number, or 0, and the state after.
-pub struct Answer {
+pub struct CardAfter {
     pub refusal: u8,
     pub card: Card,
 }
@@ -51,7 +52,7 @@ pub struct Exchanged {
     pub sent: u16,
 }
 
-// The token that a card has accepted last at power-up, with its CRC-4.
+// The last token at power-up: the RESET token, with its CRC-4.
 const RESET_TOKEN: CommandToken = CommandToken {
     first: 0x40C0,
     second: 0x4033,
@@ -110,37 +111,37 @@ fn out_of_range(card: Card) -> bool
     !is_size(card.size) | (67 < card.port.message.count) | (15 < card.module_state)
 }
 
-pub fn power_up(size: usize) -> Answer
+pub fn power_up(size: usize) -> CardAfter
     ensures { λ r. ⌜ r ≡ powered size ⌝ }
 {
     if is_size(size) {
-        return Answer {
+        return CardAfter {
             refusal: refusal::NONE,
             card: fresh_card(size),
         };
     }
-    Answer {
+    CardAfter {
         refusal: refusal::SIZE,
         card: fresh_card(0),
     }
 }
 
-pub fn select(card: Card) -> Answer
+pub fn select(card: Card) -> CardAfter
     ensures { λ r. ⌜ r ≡ selected card ⌝ }
 {
     if out_of_range(card) {
-        return Answer {
+        return CardAfter {
             refusal: refusal::STATE,
             card,
         };
     }
     if card.port.message.opened {
-        return Answer {
+        return CardAfter {
             refusal: refusal::OPEN,
             card,
         };
     }
-    Answer {
+    CardAfter {
         refusal: refusal::NONE,
         card: with_message(card, empty_message(true)),
     }
@@ -162,12 +163,12 @@ fn module_refusal(card: Card, state: u8) -> u8
 }
 
 // Sets STF and the module state.
-pub fn set_module(card: Card, stf: bool, state: u8) -> Answer
+pub fn set_module(card: Card, stf: bool, state: u8) -> CardAfter
     ensures { λ r. ⌜ r ≡ moduleSet card stf state ⌝ }
 {
     let number = module_refusal(card, state);
     if number != refusal::NONE {
-        return Answer {
+        return CardAfter {
             refusal: number,
             card,
         };
@@ -175,7 +176,7 @@ pub fn set_module(card: Card, stf: bool, state: u8) -> Answer
     let mut next = card;
     next.stf = stf;
     next.module_state = state;
-    Answer {
+    CardAfter {
         refusal: refusal::NONE,
         card: next,
     }

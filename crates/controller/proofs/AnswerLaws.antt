@@ -12,9 +12,13 @@ use types.Run.{OneOf, miss}
 use Rattle.rules.specs.Refusals as refusal
 use Rattle.rules.specs.Rules.{messageWords}
 use Rattle.token.specs.Answers.{Read}
-use Rattle.token.specs.Response.{responseRead}
+use Rattle.token.specs.Command.{goodCommand, commandRead, commandReadGives}
+use Rattle.token.specs.Response.{responseRead, responseReadGives}
+use Rattle.token.specs.declared.command.Command.{Command}
+use Rattle.token.specs.declared.command.CommandRead.{CommandRead}
 use Rattle.token.specs.declared.response.Response.{Response}
-use Rattle.controller.specs.Answers.{Answer, noFields, readingGives, readRefusal, tokenGood, fieldsRead, answerRead}
+use Rattle.token.specs.declared.response.ResponseRead.{ResponseRead}
+use Rattle.controller.specs.Reader.{Answer, readingGives, readRefusal, tokenGood, fieldsRead, answerRead}
 use Rattle.controller.specs.declared.Reading.{Reading}
 use Rattle.controller.specs.declared.Reading.the-variants.{Good, BadPayload, BadToken, Argument, Count}
 use Rattle.controller.proofs.MessageLaws.{passed-by}
@@ -28,27 +32,33 @@ read-passed len count h =
     (leb-true len 63 short, eqb-true count (messageWords len) same)
 
 -- what reading the first two words as a response token tells
-pub token-read : (words : List ℕ) (good : Bool) (f : Response)
-    → _≡_ {A = Read Response} (record { good = good; fields = f }) (responseRead (getD words 0 0) (getD words 1 0))
-    → (tokenGood words ≡ good) × (fieldsRead words ≡ f)
-unfolding tokenGood fieldsRead responseRead
-token-read words good f h = (sym (ap (λ (r : Read Response). r .good) h), sym (ap (λ (r : Read Response). r .fields) h))
+pub token-read : (words : List ℕ) (r q : ResponseRead) → responseReadGives r ≡ responseRead (getD words 0 0) (getD words 1 0) → r ≡ q
+    → (tokenGood words ≡ responseReadGives q .good) × (fieldsRead words ≡ responseReadGives q .fields)
+unfolding tokenGood fieldsRead
+token-read words r q read is =
+    let same : responseReadGives q ≡ responseRead (getD words 0 0) (getD words 1 0) = ap responseReadGives (sym is) ∙ read in
+    (sym (ap (λ (a : Read Response). a .good) same), sym (ap (λ (a : Read Response). a .fields) same))
 
-shown-by : (passed : Bool) (refused : ℕ) (answer : Answer)
-    → cond passed answer (record { refusal = refused; token = false; payload = false; fields = noFields }) .payload ≡ true
-    → passed ≡ true
-shown-by true refused answer h = refl
-shown-by false refused answer h = absurd (false≢true h)
+-- what reading two words as a command token tells
+pub command-read : (first second : ℕ) (r q : CommandRead) → commandReadGives r ≡ commandRead first second → r ≡ q
+    → goodCommand first second ≡ commandReadGives q .good
+unfolding commandRead
+command-read first second r q read is = sym (ap (λ (a : Read Command). a .good) (ap commandReadGives (sym is) ∙ read))
+
+shown-by : (passed : Bool) (answer refused : Answer) → refused .payload ≡ false → cond passed answer refused .payload ≡ true → passed ≡ true
+shown-by true answer refused none h = refl
+shown-by false answer refused none h = absurd (false≢true (sym none ∙ h))
 
 pub record GoodAnswer (f : Response) (len : ℕ) (words : List ℕ) : Type 0 where
   pub shown : answerRead len words .payload ≡ true
   pub fields : answerRead len words .fields ≡ f
   pub count : length words ≡ messageWords len
 
-good-count : (len : ℕ) (words : List ℕ) → answerRead len words .payload ≡ true → length words ≡ messageWords len
+-- an answer whose payload is shown was not refused
+pub good-count : (len : ℕ) (words : List ℕ) → answerRead len words .payload ≡ true → length words ≡ messageWords len
 unfolding answerRead
 good-count len words h =
-    let passed = shown-by (eqb (readRefusal len (length words)) refusal.None) _ _ h in
+    let passed = shown-by (eqb (readRefusal len (length words)) refusal.None) _ _ refl h in
     read-passed len (length words) (eqb-true (readRefusal len (length words)) refusal.None passed) .1
 
 -- what the reader's answer Good tells

@@ -1,17 +1,18 @@
--- Messages, and answers to the two READBACKs, as computed facts about the rules.
+-- Messages, answers to the two READBACKs, and verdicts, as computed facts about the rules.
 -- Assumes nothing.
 use mathlib.Core.Bool.{true, false}
 use mathlib.Core.List.{[], _∷_}
 use mathlib.Core.Path.{_≡_, refl}
-use Rattle.crc.specs.Bits.{bits, number, stream}
+use Rattle.bits.specs.Bits.{bits, number, stream}
 use Rattle.crc.specs.Crc.{shift, step, feed, crc, taps4, taps16, crc4, crc16After, agrees}
 use Rattle.rules.specs.Rules.{write, messageWords}
-use Rattle.token.specs.Command.{command, commandFirst, commandUpper, commandSecond, commandMarks, goodCommand}
+use Rattle.token.specs.Command.{command, commandFits, commandFirst, commandUpper, commandSecond, commandMarks, goodCommand}
 use Rattle.token.specs.Marks.{withCheck, checkRight, goodMarks}
-use Rattle.token.specs.Response.{anySet, responseMarks, goodResponse, responseFields}
-use Rattle.controller.specs.Answers.{readRefusal, tokenGood, payloadGood, fieldsRead, answerRead, payloadShown}
-use Rattle.controller.specs.Messages.{isReading, withCheckWord, payload, message}
-use Rattle.controller.specs.Sure.{readbackCommand, readGood, passes, confirms}
+use Rattle.token.specs.Response.{anySet, responseMarks, goodResponse, responseFields, responseRead}
+use Rattle.controller.specs.Reader.{readRefusal, tokenGood, payloadGood, fieldsRead, answerRead, payloadShown}
+use Rattle.controller.specs.Builder.{isReading, withCheckWord, payload, message}
+use Rattle.controller.specs.Sure.{readbackCommand, readGood, passes, confirms, sure, outOfRange, verdictGives, verdictOf}
+use Rattle.controller.specs.declared.Verdict.the-variants.{NotYet, Done, Unsure, State}
 
 pub messages : (
     message (command (write .code) 1 0) (0x0001 ∷ [])
@@ -36,7 +37,7 @@ pub first-readbacks : (
     ∷ []
     )
     ≡ (true ∷ false ∷ true ∷ [])
-unfolding passes readGood answerRead readRefusal tokenGood payloadGood agrees messageWords goodCommand commandMarks goodResponse responseMarks goodMarks checkRight crc4 crc16After crc feed step shift stream number bits taps4 taps16
+unfolding passes readGood answerRead readRefusal tokenGood payloadGood responseRead agrees messageWords goodCommand commandMarks goodResponse responseMarks goodMarks checkRight crc4 crc16After crc feed step shift stream number bits taps4 taps16
 first-readbacks = refl
 
 -- the payload shown: that of document 01's READ, none where its check is wrong, and none of length 0
@@ -47,7 +48,7 @@ pub shown : (
     ∷ []
     )
     ≡ ((0x0001 ∷ []) ∷ [] ∷ [] ∷ [])
-unfolding payloadShown answerRead readRefusal tokenGood payloadGood agrees messageWords goodResponse responseMarks goodMarks checkRight crc4 crc16After crc feed step shift stream number bits taps4 taps16
+unfolding payloadShown answerRead readRefusal tokenGood payloadGood responseRead agrees messageWords goodResponse responseMarks goodMarks checkRight crc4 crc16After crc feed step shift stream number bits taps4 taps16
 shown = refl
 
 -- the last READBACK: the WRITE token with a clean status confirms, with ME it does not, nor does another WRITE's token
@@ -58,5 +59,18 @@ pub last-readbacks : (
     ∷ []
     )
     ≡ (true ∷ false ∷ false ∷ [])
-unfolding confirms anySet readGood answerRead readRefusal tokenGood payloadGood fieldsRead responseFields agrees messageWords commandFirst commandUpper commandSecond withCheck goodResponse responseMarks goodMarks checkRight crc4 crc16After crc feed step shift stream number bits taps4 taps16
+unfolding confirms anySet readGood answerRead readRefusal tokenGood payloadGood fieldsRead responseRead responseFields agrees messageWords commandFirst commandUpper commandSecond withCheck goodResponse responseMarks goodMarks checkRight crc4 crc16After crc feed step shift stream number bits taps4 taps16
 last-readbacks = refl
+
+-- what states say: before the last words, Done, Unsure, and those whose turn or length lies outside its range
+pub verdicts : (
+    verdictOf (sure 1 0 5)
+    ∷ verdictOf (sure 1 0 6)
+    ∷ verdictOf (sure 1 0 7)
+    ∷ verdictOf (sure 1 0 8)
+    ∷ verdictOf (sure 1000 0 6)
+    ∷ []
+    )
+    ≡ (verdictGives NotYet ∷ verdictGives Done ∷ verdictGives Unsure ∷ verdictGives State ∷ verdictGives State ∷ [])
+unfolding verdictOf outOfRange commandFits
+verdicts = refl

@@ -1,3 +1,4 @@
 pub mod AnswerLaws
 pub mod Known
 pub mod MessageLaws
+pub mod Refusals

@@ -5,7 +5,7 @@ use native.Mathlib.Numerals.{add-one}
 use native.Mathlib.Omega.{arith}
 use mathlib.Core.Bool.{Bool, true, false, cond, _&&_}
 use mathlib.Core.List.{List, [], _∷_, _++_, append-nil}
-use mathlib.Core.Path.{_≡_, refl, ap, _∙_}
+use mathlib.Core.Path.{_≡_, refl, sym, ap, _∙_}
 use borrow.Author.Tests.{eq-eqb, ne-eqb, eqb-true, leb-true}
 use borrow.Rule.Slice.PartMut.{putMid}
 use lib.Dec.{eqb, leb, lit<}
@@ -14,14 +14,16 @@ use lib.Seq.{take-all, take-suc, length-take-le, drop-drop, drop-cons, set-at, a
 use Rattle.crc.specs.Crc.{crc16}
 use Rattle.rules.specs.Refusals as refusal
 use Rattle.rules.specs.Rules.{messageWords}
-use Rattle.token.proofs.CommandTrip.{fields-fit, command-fields}
+use Rattle.token.proofs.CommandTrip.{command-fields}
 use Rattle.token.proofs.Good.{both}
 use Rattle.token.specs.Answers.{Built}
-use Rattle.token.specs.Command.{command, tokenOf, commandToken, commandFits, commandBuilt, commandBuiltGives, commandFields}
+use Rattle.token.specs.Command.{commandToken, commandFits, commandBuilt, commandBuiltGives, commandFields}
 use Rattle.token.specs.declared.command.Command.{Command}
+use Rattle.token.specs.declared.command.CommandBuilt.{CommandBuilt}
 use Rattle.token.specs.declared.command.CommandBuilt.the-variants as built
 use Rattle.token.specs.declared.command.CommandToken.{CommandToken}
-use Rattle.controller.specs.Messages.{isReading, withCheckWord, payload, blockFits, buildRefusal, over}
+use Rattle.controller.specs.Builder.{isReading, withCheckWord, payload, blockFits, buildRefusal}
+use Rattle.bits.specs.Buffers.{over}
 
 -- ---- words over the first places of a buffer
 
@@ -130,28 +132,31 @@ build-passed f count room h =
     (both (commandFits f) (blockFits f count) fits .1, leb-true (messageWords (f .length)) room long)
 
 built-by : (fits : Bool) (t made : CommandToken)
-    → _≡_ {A = Built CommandToken} (record { refusal = refusal.None; token = t }) (cond fits (record { refusal = refusal.None; token = made }) (record { refusal = refusal.Argument; token = tokenOf 0 0 }))
+    → commandBuiltGives (built.Token t) ≡ cond fits (commandBuiltGives (built.Token made)) (commandBuiltGives built.Argument)
     → (fits ≡ true) × (t ≡ made)
 built-by true t made h = (refl, ap (λ (b : Built CommandToken). b .token) h)
 built-by false t made h = absurd (omega (arith, ap (λ (b : Built CommandToken). b .refusal) h))
 
 -- a token that was built is that of its fields, which fit
-pub token-built : (code len sub : ℕ) (t : CommandToken) → commandBuiltGives (built.Token t) ≡ commandBuilt code len sub
-    → (commandFits (command code len sub) ≡ true) × (t ≡ commandToken (command code len sub))
+pub token-built : (f : Command) (r : CommandBuilt) (t : CommandToken)
+    → commandBuiltGives r ≡ commandBuilt (f .code) (f .length) (f .«sub_address») → r ≡ built.Token t
+    → (commandFits f ≡ true) × (t ≡ commandToken f)
 unfolding commandBuilt
-token-built code len sub t h = built-by (commandFits (command code len sub)) t (commandToken (command code len sub)) h
+token-built f r t made is = built-by (commandFits f) t (commandToken f) (ap commandBuiltGives (sym is) ∙ made)
 
 unbuilt-by : (fits : Bool) (made : CommandToken)
-    → _≡_ {A = Built CommandToken} (record { refusal = refusal.Argument; token = tokenOf 0 0 }) (cond fits (record { refusal = refusal.None; token = made }) (record { refusal = refusal.Argument; token = tokenOf 0 0 }))
+    → commandBuiltGives built.Argument ≡ cond fits (commandBuiltGives (built.Token made)) (commandBuiltGives built.Argument)
     → fits ≡ false
 unbuilt-by true made h = absurd (omega (arith, ap (λ (b : Built CommandToken). b .refusal) h))
 unbuilt-by false made h = refl
 
 -- where none was built, the fields do not fit
-pub token-not-built : (code len sub : ℕ) → commandBuiltGives built.Argument ≡ commandBuilt code len sub → commandFits (command code len sub) ≡ false
+pub token-not-built : (f : Command) (r : CommandBuilt)
+    → commandBuiltGives r ≡ commandBuilt (f .code) (f .length) (f .«sub_address») → r ≡ built.Argument
+    → commandFits f ≡ false
 unfolding commandBuilt
-token-not-built code len sub h = unbuilt-by (commandFits (command code len sub)) (commandToken (command code len sub)) h
+token-not-built f r made is = unbuilt-by (commandFits f) (commandToken f) (ap commandBuiltGives (sym is) ∙ made)
 
 -- it has the fields that it was built from
 pub built-fields : (f : Command) (t : CommandToken) → commandFits f ≡ true → t ≡ commandToken f → commandFields (t .first) (t .second) ≡ f
-built-fields f t fits made = rw made (command-fields f (fields-fit f fits))
+built-fields f t fits made = rw made (command-fields f fits)

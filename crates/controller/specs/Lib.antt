@@ -1,3 +1,3 @@
-pub mod Answers
-pub mod Messages
+pub mod Builder
+pub mod Reader
 pub mod Sure

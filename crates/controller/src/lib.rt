@@ -29,10 +29,12 @@ pub enum Started {
     Argument,
 }
 
+// What a state says: no verdict yet, one of the two, or that the state lies outside its range.
 pub enum Verdict {
     NotYet,
     Done,
     Unsure,
+    State,
 }
 
 // What asking for the next message gives: the refusal's number, 0 for none, the number of words written, and the state after.

@@ -1,20 +1,17 @@
 -- What the protocol's two checks detect: the laws of `Detect` at their polynomials, by computed tests.
 -- Assumes nothing.
-use Prim.Native.Nat.{ℕ, suc, _/_, _%_, _^_, _<_}
+use Prim.Native.Nat.{ℕ, _/_, _%_, _<_}
 use native.Mathlib.Nat.{mod-eq-of-lt}
-use native.Mathlib.Omega.{arith}
-use mathlib.Core.Path.{_≡_, refl, sym, ap, ap₂, _∙_}
+use mathlib.Core.Path.{_≡_, refl, sym, ap, _∙_}
 use mathlib.Core.Bool.{Bool, true}
 use mathlib.Core.Logic.{_↔_}
 use mathlib.Core.List.{List, [], _∷_, _++_, append-nil, append-assoc}
-use lib.ListN.{length, getD, take, drop}
-use lib.Seq.{take-at, drop-at}
-use Rattle.crc.specs.Bits.{bits, number, stream}
+use Rattle.bits.specs.Bits.{bits, stream}
 use Rattle.crc.specs.Crc.{crc, taps4, taps16, crc4, crc16, crc16After}
-use Rattle.crc.specs.Damage.{Burst, Flip}
+use Rattle.crc.specs.Errors.{Burst, Flip}
 use Rattle.crc.proofs.Detect.{constant, closing, burst-seen, flip-seen}
-use Rattle.crc.proofs.Digits.{bits-split, length-bits, number-bits}
-use Rattle.crc.proofs.Words.{stream-append}
+use Rattle.bits.proofs.Digits.{bits-split}
+use Rattle.bits.proofs.Lines.{stream-append}
 
 pub odd4 : constant taps4 ≡ true
 unfolding constant taps4 bits
@@ -75,19 +72,3 @@ module _ (words words′ : List ℕ) (check check′ : ℕ) (fits : check < 6553
       → stream 16 (words ++ (check ∷ [])) ≡ stream 16 (words′ ++ (check′ ∷ []))
   unfolding crc16After taps16 bits
   words-burst-seen d = burst-seen taps16 odd16 0 d both-close
-
--- words of k bits are known by their bits
-pub stream-injective : (k : ℕ) (xs ys : List ℕ) → ((i : ℕ) → getD xs i 0 < 2 ^ k) → ((i : ℕ) → getD ys i 0 < 2 ^ k) → length xs ≡ length ys
-    → stream k xs ≡ stream k ys → xs ≡ ys
-unfolding stream
-stream-injective k [] [] hx hy e q = refl
-stream-injective k [] (y ∷ ys) hx hy e q = absurd (omega arith)
-stream-injective k (x ∷ xs) [] hx hy e q = absurd (omega arith)
-stream-injective k (x ∷ xs) (y ∷ ys) hx hy e q =
-    let same : bits k x ≡ bits k y
-    = sym (take-at (bits k x) (stream k xs) k (length-bits k x)) ∙ ap (take k) q ∙ take-at (bits k y) (stream k ys) k (length-bits k y) in
-    let rest : stream k xs ≡ stream k ys
-    = sym (drop-at (bits k x) (stream k xs) k (length-bits k x)) ∙ ap (drop k) q ∙ drop-at (bits k y) (stream k ys) k (length-bits k y) in
-    ap₂ _∷_
-    (sym (number-bits k x ∙ mod-eq-of-lt (hx 0)) ∙ ap number same ∙ number-bits k y ∙ mod-eq-of-lt (hy 0))
-    (stream-injective k xs ys (λ i. hx (suc i)) (λ i. hy (suc i)) (omega arith) rest)

@@ -3,14 +3,14 @@
 use Prim.Native.Nat.{ℕ, zero, suc, _+_, _%_, _^_, _≤_, _<_}
 use native.Mathlib.Omega.{arith}
 use mathlib.Core.Path.{_≡_, refl, sym, ap, ap₂, _∙_}
-use mathlib.Core.Bool.{Bool, true, false, not, _&&_, true≢false, false≢true}
+use mathlib.Core.Bool.{Bool, true, false, not, _&&_, and-true, true≢false, false≢true}
 use mathlib.Core.Logic.{_↔_}
 use mathlib.Core.List.{List, [], _∷_, _++_, head-eq-of-cons-eq, tail-eq-of-cons-eq}
 use lib.ListN.{length, length-replicate}
-use Rattle.crc.specs.Bits.{bits, number}
-use Rattle.crc.specs.Crc.{flip, shift, step, feed, crc}
-use Rattle.crc.specs.Damage.{Burst, Flip}
-use Rattle.crc.proofs.Digits.{flips, length-flips, length-bits, bits-number, bits-mod, number-bits, number-injective}
+use Rattle.bits.specs.Bits.{bits, number, flip}
+use Rattle.crc.specs.Crc.{shift, step, feed, crc}
+use Rattle.crc.specs.Errors.{Burst, Flip}
+use Rattle.bits.proofs.Digits.{flips, length-flips, length-bits, bits-number, bits-mod, number-bits, number-injective}
 use Rattle.crc.proofs.Register.{flip-comm, zeros, length-step, length-feed, feed-append, feed-absorb, number-zeros}
 
 -- the constant coefficient
@@ -20,10 +20,6 @@ constant (t ∷ []) = t
 constant (t ∷ u ∷ taps) = constant (u ∷ taps)
 
 -- ---- nothing is lost: registers that differ stay different
-
-and-true : (x : Bool) → (x && true) ≡ x
-and-true true = refl
-and-true false = refl
 
 flip-cancel : (f x y : Bool) → flip f x ≡ flip f y → x ≡ y
 flip-cancel false x y e = e

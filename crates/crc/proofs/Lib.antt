@@ -1,7 +1,7 @@
 pub mod Checks
 pub mod Detect
-pub mod Digits
-pub mod Flips
+pub mod Linear
+pub mod Maps
 pub mod Register
 pub mod Remainders
 pub mod Words

@@ -9,9 +9,9 @@ use mathlib.Core.List.{List, [], _∷_, _++_, append-nil, append-assoc}
 use lib.Dec.{eqb}
 use lib.ListN.{length, length-append, replicate, length-replicate}
 use lib.Bits.{bitXor}
-use Rattle.crc.specs.Bits.{bits, number}
-use Rattle.crc.specs.Crc.{flip, shift, step, feed, crc}
-use Rattle.crc.proofs.Digits.{flips, length-bits, length-flips, bits-split, bits-number, bits-xor, number-bits, number-append, number-flips, number-lt}
+use Rattle.bits.specs.Bits.{bits, number, flip}
+use Rattle.crc.specs.Crc.{shift, step, feed, crc}
+use Rattle.bits.proofs.Digits.{flips, length-bits, length-flips, bits-split, bits-number, bits-xor, number-bits, number-append, number-flips, number-lt}
 
 -- ---- bits and bit lists, flipped
 

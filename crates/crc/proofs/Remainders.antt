@@ -2,18 +2,15 @@
 -- Assumes nothing.
 use Prim.Native.Nat.{ℕ, zero, suc, _+_, _*_, _/_, _%_, _^_, _<_}
 use native.Mathlib.Nat.{zero-add, add-zero, add-suc, suc-add, not-suc-le-zero, le-of-suc-le-suc, mod-lt}
-use native.Mathlib.Numerals.{one-add}
-use native.Mathlib.Omega.{arith}
 use mathlib.Core.Path.{_≡_, sym, ap, _∙_}
 use mathlib.Core.Bool.{Bool}
 use mathlib.Core.List.{List, [], _∷_}
 use lib.ListN.{length, getD}
 use lib.Pow.{pow-pos}
 use lib.Bits.{bitXor}
-use lib.Dec.{lit<}
-use Rattle.crc.specs.Bits.{bits}
+use Rattle.bits.specs.Bits.{bits}
 use Rattle.crc.specs.Crc.{crc}
-use Rattle.crc.proofs.Digits.{bits-mod}
+use Rattle.bits.proofs.Digits.{bits-mod}
 use Rattle.crc.proofs.Register.{crc-lookup}
 
 -- f of n numbers from i on
@@ -44,15 +41,3 @@ looked-up taps k j w table e c n =
     ap (λ (m : ℕ). bitXor m (c % 2 ^ j * 2 ^ suc k))
     (ap (λ (t : List ℕ). getD t (bitXor (c / 2 ^ j) n % 2 ^ suc k) 0) e ∙ remainder-at taps (suc k) (bitXor (c / 2 ^ j) n))
     ∙ sym (crc-lookup taps k j w c n)
-
--- the same for one bit, with no table: of the two remainders one is 0, and the other is the polynomial
-chosen : (m polynomial : ℕ) → m < 2 → m * polynomial ≡ getD (0 ∷ polynomial ∷ []) m 0
-chosen zero polynomial h = omega arith
-chosen (suc zero) polynomial h = omega arith
-chosen (suc (suc m)) polynomial h = absurd (omega arith)
-
-pub one-bit : (taps : List Bool) (j : ℕ) → length taps ≡ 1 + j → (polynomial : ℕ) → 0 ∷ polynomial ∷ [] ≡ remainders taps 1 → (c n : ℕ)
-    → bitXor (bitXor (c / 2 ^ j) n % 2 * polynomial) (c % 2 ^ j * 2) ≡ crc taps c (bits 1 n)
-one-bit taps j w polynomial e c n =
-    ap (λ (m : ℕ). bitXor m (c % 2 ^ j * 2)) (chosen (bitXor (c / 2 ^ j) n % 2) polynomial (mod-lt (bitXor (c / 2 ^ j) n) (lit< tt)))
-    ∙ looked-up taps 0 j (w ∙ one-add j ∙ sym (suc-add 0 j ∙ ap suc (zero-add j))) (0 ∷ polynomial ∷ []) e c n

@@ -3,14 +3,15 @@
 use Prim.Native.Nat.{ℕ, suc, _+_, _*_, _/_, _^_, _≤_, _<_}
 use native.Mathlib.Numerals.{add-one, add-two}
 use native.Mathlib.Omega.{arith}
-use mathlib.Core.Path.{_≡_, refl, sym, ap, _∙_}
+use mathlib.Core.Path.{_≡_, refl, ap, _∙_}
 use mathlib.Core.Bool.{Bool}
-use mathlib.Core.List.{List, [], _∷_, _++_, append-nil, append-assoc}
+use mathlib.Core.List.{List, [], _∷_, _++_, append-nil}
 use lib.ListN.{length, getD, take, drop, length-drop}
 use lib.Seq.{drop-cons, take-suc}
-use Rattle.crc.specs.Bits.{bits, stream, wordsOf}
+use Rattle.bits.specs.Bits.{bits, stream, wordsOf}
 use Rattle.crc.specs.Crc.{crc, taps4, taps16, crc4, crc16, crc16After}
-use Rattle.crc.proofs.Digits.{bits-split}
+use Rattle.bits.proofs.Digits.{bits-split}
+use Rattle.bits.proofs.Lines.{stream-append}
 use Rattle.crc.proofs.Register.{crc-append, crc-none, crc-lt}
 
 -- ---- checks have their number of bits
@@ -25,7 +26,7 @@ crc16-lt s words = crc-lt taps16 s (stream 16 words)
 
 -- ---- by runs of bits
 
-pub crc-split : (taps : List Bool) (s j k n : ℕ) → crc taps s (bits (j + k) n) ≡ crc taps (crc taps s (bits j (n / 2 ^ k))) (bits k n)
+crc-split : (taps : List Bool) (s j k n : ℕ) → crc taps s (bits (j + k) n) ≡ crc taps (crc taps s (bits j (n / 2 ^ k))) (bits k n)
 crc-split taps s j k n = ap (crc taps s) (bits-split j k n) ∙ crc-append taps s (bits j (n / 2 ^ k)) (bits k n)
 
 module _ (taps : List Bool) where
@@ -47,11 +48,6 @@ pub crc16-nibbles : (s word : ℕ)
 crc16-nibbles s word = crc16-word s word ∙ sixteen taps16 s word
 
 -- ---- by words
-
-pub stream-append : (k : ℕ) (xs ys : List ℕ) → stream k (xs ++ ys) ≡ stream k xs ++ stream k ys
-unfolding stream
-stream-append k [] ys = refl
-stream-append k (x ∷ xs) ys = ap (λ (l : List Bool). bits k x ++ l) (stream-append k xs ys) ∙ sym (append-assoc (bits k x) (stream k xs) (stream k ys))
 
 -- a check is taken up again where it was left
 pub crc16-append : (s : ℕ) (before after : List ℕ) → crc16After s (before ++ after) ≡ crc16After (crc16After s before) after

@@ -1,17 +1,11 @@
 -- Cyclic redundancy checks, for any polynomial, and the protocol's two.
 -- A polynomial of degree w is given by its taps, its w coefficients from that of x^(w-1) down to the constant one. A register is w bits.
--- Assumes nothing.
 use Prim.Native.Nat.{ℕ, _/_}
-use mathlib.Core.Bool.{Bool, true, false, not, _&&_, _||_}
+use mathlib.Core.Bool.{Bool, _&&_, _||_}
 use mathlib.Core.List.{List, [], _∷_, _++_}
 use lib.Dec.{eqb, ltb}
 use lib.ListN.{length, take, getD}
-use Rattle.crc.specs.Bits.{bits, number, stream}
-
--- b, turned over where f says so
-abbrev pub flip : Bool → Bool → Bool
-flip false b = b
-flip true b = not b
+use Rattle.bits.specs.Bits.{flip, bits, number, stream}
 
 -- each place takes the bit behind it, the last one 0, and is flipped where the bit fed back, f, meets a tap
 unfoldable pub shift : Bool → List Bool → List Bool → List Bool

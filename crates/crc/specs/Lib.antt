@@ -1,3 +1,2 @@
-pub mod Bits
 pub mod Crc
-pub mod Damage
+pub mod Errors

@@ -1,13 +1,11 @@
-// The protocol's two cyclic redundancy checks: a token's CRC-4, bit by bit, and a payload's CRC-16, four bits at a time.
+// The protocol's two cyclic redundancy checks: a token's CRC-4 at once, and a payload's CRC-16 four bits at a time.
 ghost use mathlib.Core.Path.{_≡_};
-ghost use Prim.Native.Nat.{_+_, _*_, _≤_, _<_};
+ghost use Prim.Native.Nat.{_*_, _/_, _%_, _^_, _<_};
+ghost use lib.Bits.{bitXor};
 ghost use mathlib.Core.List.{[], _∷_};
-ghost use Rattle.crc.specs.Bits.{bits, wordsOf};
+ghost use Rattle.bits.specs.Bits.{bits, wordsOf};
 ghost use Rattle.crc.specs.Crc;
-ghost use Rattle.crc.specs.Crc.{crc, taps4, taps16, crc4, crc16, crc16After};
-
-// What x^4 + x + 1 has below x^4.
-const TAPS_4: u16 = 0b0011;
+ghost use Rattle.crc.specs.Crc.{crc, taps16, crc4, crc16, crc16After};
 
 // The CRC-16 of each message of four bits.
 const REMAINDERS_16: [u16; 16] = [
@@ -29,34 +27,26 @@ const REMAINDERS_16: [u16; 16] = [
     0x0022,
 ];
 
-// The CRC-4 after the lowest bit of `bit`, when the bits before it left `before`.
-fn crc4_bit(before: u16, bit: u16) -> u16
-    ensures { λ r. ⌜ r ≡ crc taps4 before (bits 1 bit) ⌝ }
+// v with x^degree replaced by x^back + 1, in all that it has at x^degree and above.
+fn fold(v: u64, degree: u32, back: u32) -> u64
+    requires { ⌜ (degree < 64) × (back < 64) ⌝ }
+    ensures { λ r. ⌜ r ≡ bitXor (bitXor v (v / 2 ^ degree * 2 ^ degree % 2 ^ 64)) (bitXor (v / 2 ^ degree) (v / 2 ^ degree * 2 ^ back % 2 ^ 64)) ⌝ }
 {
-    let back = (before / 8 ^ bit) % 2;
-    back * TAPS_4 ^ before % 8 * 2
-}
-
-// The CRC-4 after the lowest `count` bits of `word`, the highest of them first.
-fn crc4_bits(before: u16, word: u16, count: u16) -> u16
-    requires { ⌜ (before < 16) × (count ≤ 16) ⌝ }
-    ensures { λ r. ⌜ r ≡ crc taps4 before (bits count word) ⌝ }
-{
-    let mut check = before;
-    let mut left = count;
-    while 0 < left {
-        left -= 1;
-        check = crc4_bit(check, word >> left);
-    }
-    check
+    let high = v >> degree;
+    v ^ high << degree ^ (high ^ high << back)
 }
 
 // The CRC-4 of a token: over all of its first word, then bits 15-4 of its second.
+// Why folds give it: these 28 bits are a polynomial, the last of them its constant term, and the CRC-4 is the remainder
+// by x^4 + x + 1 of x^4 times it. Coefficients are bits, added without carry, so x^4 has the remainder of x + 1, its
+// square x^8 that of x^2 + 1, and x^16 that of x^4 + 1. No fold changes the remainder, and behind the last one nothing
+// stands at x^4 or above.
 pub fn token_check(first: u16, second: u16) -> u16
     ensures { λ r. ⌜ r ≡ crc4 first second ⌝ }
 {
-    let check = crc4_bits(0, first, 16);
-    crc4_bits(check, second / 16, 12)
+    let message = first as u64 * 4096 + (second / 16) as u64;
+    let up = fold(fold(message, 16, 4), 8, 2) << 4;
+    (fold(fold(fold(up, 8, 2), 4, 1), 4, 1) % 16) as u16
 }
 
 // The CRC-16 after the lowest four bits of `nibble`, when the bits before them left `before`.
@@ -103,13 +93,6 @@ pub fn agrees(words: &[u16], n: usize) -> bool
     check_words(&words[..n]) == words[n]
 }
 
-// The word of two bytes.
-fn word_of(high: u8, low: u8) -> u16
-    ensures { λ r. ⌜ r ≡ high * 256 + low ⌝ }
-{
-    high as u16 * 256 + low as u16
-}
-
 // The CRC-16 of the words that bytes make two by two, the high byte of each first. A last byte alone makes no word:
 // whoever has bytes from outside refuses an odd number of them first.
 pub fn check_bytes(bytes: &[u8]) -> u16
@@ -118,7 +101,7 @@ pub fn check_bytes(bytes: &[u8]) -> u16
     let mut check: u16 = 0;
     let mut i = 0;
     while i + 1 < bytes.len() {
-        check = check_word(check, word_of(bytes[i], bytes[i + 1]));
+        check = check_word(check, bits::word_of(bytes[i], bytes[i + 1]));
         i += 2;
     }
     check

@@ -9,12 +9,13 @@ use borrow.Author.Tests.{eq-eqb, le-ltb, eqb-true}
 use lib.Dec.{eqb, ltb}
 use lib.ListN.{length, getD, take, length-take}
 use lib.Seq.{take-all}
-use Rattle.crc.specs.Bits.{stream}
+use Rattle.bits.specs.Bits.{stream}
 use Rattle.crc.specs.Crc.{crc16, agrees}
-use Rattle.link.specs.Lines.{words, wholeWords, leftOver}
-use Rattle.link.specs.Damage.{AtMostOne, flipped}
-use Rattle.link.proofs.Laws.{Words, length-stream, length-words, stream-words, words-take, words-below, length-flipped, words-two, words-more, Alike}
-use Rattle.link.proofs.Kept.{payload-kept, behind-token, token-same}
+use Rattle.bits.specs.Lines.{words, wholeWords, bitsLeft, AreWords}
+use Rattle.link.specs.Damage.{Flips, flipped}
+use Rattle.bits.proofs.Lines.{length-stream, length-words, stream-words, words-take, words-below, words-two, words-more}
+use Rattle.link.proofs.Laws.{length-flipped}
+use Rattle.link.proofs.Spoilt.{SpoiltPayload, payload-kept, behind-token, token-same}
 use Rattle.rules.specs.Rules.{messageWords}
 use Rattle.token.specs.Command.{commandFirst, commandSecond, commandFields}
 use Rattle.token.specs.Response.{clean, anySet}
@@ -68,7 +69,7 @@ whole size b (first ∷ second ∷ rest) left h =
 -- a whole command: fields that fit a token, as many words as its length asks for, and a payload that agrees if it is looked at
 pub record Sendable (t : Command) (rest : List ℕ) : Type 0 where
   pub fits : CommandFits t
-  pub below : Words (commandFirst t ∷ commandSecond t ∷ rest)
+  pub below : AreWords (commandFirst t ∷ commandSecond t ∷ rest)
   pub count : suc (suc (length rest)) ≡ messageWords (t .length)
   pub agree : isChecked (t .code) ≡ true → agrees (t .length) rest ≡ true
 
@@ -90,9 +91,9 @@ pub record AsBuilt (t : Command) (rest : List ℕ) (size : ℕ) (b : Bases) (lin
   pub passes : anySet (tokenStatus size b (commandFirst t) (commandSecond t)) ≡ false
   pub same : isChecked (t .code) ≡ true → payload ≡ rest
 
--- a payload with its check, of which at most one bit was turned over
-agreed : (n : ℕ) (ws vs : List ℕ) → suc (suc (length ws)) ≡ messageWords n → suc (suc (length vs)) ≡ messageWords n → Words ws → Words vs
-    → Alike (stream 16 ws) (stream 16 vs) → agrees n ws ≡ true → agrees n vs ≡ true → vs ≡ ws
+-- a payload with its check that came spoilt
+agreed : (n : ℕ) (ws vs : List ℕ) → suc (suc (length ws)) ≡ messageWords n → suc (suc (length vs)) ≡ messageWords n → AreWords ws → AreWords vs
+    → SpoiltPayload ws vs → agrees n ws ≡ true → agrees n vs ≡ true → vs ≡ ws
 unfolding agrees messageWords
 agreed n ws vs h g hw hv e p q = go (eqb n 0) refl
   where
@@ -117,14 +118,14 @@ module _ (t : Command) (rest : List ℕ) (s : Sendable t rest) (size : ℕ) (b :
   long = length-stream (commandFirst t ∷ commandSecond t ∷ rest)
 
   -- with a bit turned over
-  pub built-flipped : (o : AtMostOne) → Whole size b (wholeWords (flipped o line)) (leftOver (flipped o line)) → AsBuilt t rest size b (flipped o line)
-  unfolding wholeWords Words
+  pub built-flipped : (o : Flips) → Whole size b (wholeWords (flipped o line)) (bitsLeft (flipped o line)) → AsBuilt t rest size b (flipped o line)
+  unfolding wholeWords AreWords
   built-flipped o a =
       let n : ℕ = length (flipped o line) / 16 in
       let size-is : length (flipped o line) ≡ suc (suc (length rest)) * 16 = length-flipped o line ∙ long in
       let back : stream 16 (words n (flipped o line)) ≡ flipped o line = stream-words n (flipped o line) (omega arith) in
       let got : stream 16 (a .first ∷ a .second ∷ a .rest) ≡ flipped o line = ap (stream 16) (sym (a .are)) ∙ back in
-      let seen : Words (a .first ∷ a .second ∷ a .rest) = rw (a .are) at (words-below n (flipped o line)) in
+      let seen : AreWords (a .first ∷ a .second ∷ a .rest) = rw (a .are) at (words-below n (flipped o line)) in
       let parts = behind-token (commandFirst t) (commandSecond t) rest (a .first) (a .second) (a .rest) o got in
       let (one, two) =
       token-same (commandFirst t) (commandSecond t) rest (a .first) (a .second) (a .rest) parts (words-two _ _ rest (s .below)) (words-two _ _ (a .rest) seen)
@@ -140,8 +141,8 @@ module _ (t : Command) (rest : List ℕ) (s : Sendable t rest) (size : ℕ) (b :
       }
 
   -- cut short
-  pub built-cut : (k : ℕ) → Whole size b (wholeWords (take k line)) (leftOver (take k line)) → AsBuilt t rest size b (take k line)
-  unfolding wholeWords leftOver
+  pub built-cut : (k : ℕ) → Whole size b (wholeWords (take k line)) (bitsLeft (take k line)) → AsBuilt t rest size b (take k line)
+  unfolding wholeWords bitsLeft
   built-cut k a =
       let n : ℕ = length (take k line) / 16 in
       let ws : List ℕ = commandFirst t ∷ commandSecond t ∷ rest in

@@ -11,25 +11,25 @@ use lib.ListN.{length, getD, take, replicate, length-append}
 use lib.Seq.{take-at, getD-at}
 use Rattle.crc.specs.Crc.{crc16, agrees}
 use Rattle.crc.proofs.Words.{crc16-lt}
-use Rattle.link.proofs.Laws.{Words}
+use Rattle.bits.specs.Lines.{AreWords}
 use Rattle.rules.specs.Rules.{messageWords, read, readback}
 use Rattle.token.specs.Command.{commandFirst, commandSecond}
 use Rattle.token.specs.declared.command.Command.{Command}
 use Rattle.token.proofs.CommandTrip.{CommandFits, first-below, second-below}
 use Rattle.judge.specs.Judge.{isChecked}
 use Rattle.judge.proofs.Laws.{never}
-use Rattle.controller.specs.Messages.{isReading, withCheckWord, payload, blockFits}
+use Rattle.controller.specs.Builder.{isReading, withCheckWord, payload, blockFits}
 use Rattle.controller.proofs.MessageLaws.{payload-block, message-whole}
 use Rattle.delivery.proofs.Accept.{Sendable}
 
-zeros-below : (n : ℕ) → Words (replicate n 0)
-unfolding Words
+zeros-below : (n : ℕ) → AreWords (replicate n 0)
+unfolding AreWords
 zeros-below zero i = lit< tt
 zeros-below (suc n) zero = lit< tt
 zeros-below (suc n) (suc i) = zeros-below n i
 
-snoc-below : (ws : List ℕ) (w : ℕ) → Words ws → w < 65536 → Words (ws ++ (w ∷ []))
-unfolding Words
+snoc-below : (ws : List ℕ) (w : ℕ) → AreWords ws → w < 65536 → AreWords (ws ++ (w ∷ []))
+unfolding AreWords
 snoc-below [] w h hw zero = hw
 snoc-below [] w h hw (suc i) = lit< tt
 snoc-below (x ∷ ws) w h hw zero = h 0
@@ -37,11 +37,11 @@ snoc-below (x ∷ ws) w h hw (suc i) = snoc-below ws w (λ j. h (suc j)) hw i
 
 -- a block with its check word
 module _ (block : List ℕ) where
-  checked-below : Words block → Words (withCheckWord block)
+  checked-below : AreWords block → AreWords (withCheckWord block)
   unfolding withCheckWord
   checked-below h = go (eqb (length block) 0)
     where
-      go : (b : Bool) → Words (cond b [] (block ++ (crc16 block ∷ [])))
+      go : (b : Bool) → AreWords (cond b [] (block ++ (crc16 block ∷ [])))
       go true = zeros-below 0
       go false = snoc-below block (crc16 block) h (crc16-lt 0 block)
 
@@ -81,19 +81,19 @@ reading-unchecked code h = go (eqb code (read .code)) (eqb code (readback .code)
     go false true p q h = ap isChecked (eqb-true code (readback .code) q)
     go false false p q h = never (sym h)
 
-pub sendable : (t : Command) (block : List ℕ) → CommandFits t → Words block → blockFits t (length block) ≡ true → Sendable t (payload t block)
-unfolding Words
+pub sendable : (t : Command) (block : List ℕ) → CommandFits t → AreWords block → blockFits t (length block) ≡ true → Sendable t (payload t block)
+unfolding AreWords
 sendable t block fits h n =
     record { fits = fits; below = below; count = omega (arith, message-whole t block n); agree = agree (isReading (t .code)) refl }
   where
-    payload-below : Words (payload t block)
+    payload-below : AreWords (payload t block)
     payload-below = unfold payload in go (isReading (t .code))
       where
-        go : (b : Bool) → Words (cond b (replicate (messageWords (t .length) - 2) 0) (withCheckWord block))
+        go : (b : Bool) → AreWords (cond b (replicate (messageWords (t .length) - 2) 0) (withCheckWord block))
         go true = zeros-below (messageWords (t .length) - 2)
         go false = checked-below block h
 
-    below : Words (commandFirst t ∷ commandSecond t ∷ payload t block)
+    below : AreWords (commandFirst t ∷ commandSecond t ∷ payload t block)
     below zero = first-below t fits
     below (suc zero) = second-below t fits
     below (suc (suc i)) = payload-below i

@@ -9,25 +9,27 @@ use mathlib.Core.List.{List, [], _∷_, append-nil}
 use borrow.Author.Tests.{eq-eqb}
 use lib.Dec.{lit<, lit≤}
 use lib.ListN.{length}
-use Rattle.crc.specs.Bits.{stream}
-use Rattle.link.specs.Lines.{words, wholeWords, leftOver}
+use Rattle.bits.specs.Bits.{stream}
+use Rattle.bits.specs.Lines.{words, wholeWords, bitsLeft, AreWords}
 use Rattle.link.specs.Damage.{Damage, undamaged}
-use Rattle.link.proofs.Laws.{Words, length-stream, words-stream, none-flipped}
+use Rattle.bits.proofs.Lines.{length-stream, words-stream}
+use Rattle.link.proofs.Laws.{none-flipped}
 use Rattle.token.specs.Command.{commandFirst, commandSecond, commandToken}
 use Rattle.token.specs.Response.{clean, anySet}
 use Rattle.token.specs.declared.command.Command.{Command}
 use Rattle.token.proofs.CommandTrip.{command-fields}
 use Rattle.judge.specs.Judge.{isChecked, wordPlace}
 use Rattle.judge.proofs.Laws.{never}
-use Rattle.card.specs.Acting.{basesAfter, timeAfter, written, acted, noted, stored}
+use Rattle.card.specs.Release.{basesAfter, timeAfter, acted, noted, stored}
+use Rattle.bits.specs.Buffers.{written}
 use Rattle.card.specs.State.{emptied}
 use Rattle.card.specs.declared.Card.{Card}
-use Rattle.controller.specs.Messages.{isReading, payload, message, blockFits}
+use Rattle.controller.specs.Builder.{isReading, payload, message, blockFits}
 use Rattle.controller.specs.Sure.{readbackCommand}
 use Rattle.controller.proofs.MessageLaws.{payload-block}
 use Rattle.delivery.specs.Delivery.{Kept}
-use Rattle.delivery.proofs.Held.{Idle, room, holding}
-use Rattle.delivery.proofs.Closed.{judgedBy, cardActed, memoryActed, acted-status, acted-last}
+use Rattle.card.proofs.Holding.{Idle, room, holding}
+use Rattle.card.proofs.Closed.{judgedBy, cardActed, memoryActed, acted-status, acted-last}
 use Rattle.delivery.proofs.Judged.{readback-fits, writeOf, write-fits}
 use Rattle.delivery.proofs.Accept.{accepts, Sendable}
 use Rattle.delivery.proofs.Built.{checked-front, sendable}
@@ -46,20 +48,6 @@ kept-trans a b c h g =
       closed = g .closed;
     }
 
--- so it is idle again
-pub kept-idle : (c c′ : Card) (memory memory′ : List ℕ) → Idle c memory → Kept c c′ → length memory′ ≡ length memory → Idle c′ memory′
-unfolding emptied
-kept-idle c c′ memory memory′ idle k n =
-    record {
-      ranged = record {
-        size = rw (k .size) (idle .ranged .size);
-        count = rw (k .closed) (lit≤ tt);
-        module-state = rw (k .module-state) (idle .ranged .module-state);
-      };
-      closed = k .closed;
-      lent = n ∙ idle .lent ∙ sym (k .size);
-    }
-
 -- ---- any command with its effect
 
 -- what a command does where it is taken: the memory is a new one, and all else of the card stays
@@ -75,7 +63,7 @@ module _ (t : Command) (block new : List ℕ) (s : Sendable t (payload t block))
   keeps (Refused e p q) = rw p (record { size = refl; bases = refl; time = refl; stf = refl; module-state = refl; closed = refl })
   keeps (Taken ws j same p q) = rw p (effect .plain ws)
 
-  pub sent-kept : (d : Damage) → Kept c (sent t block d c memory .card)
+  pub sent-kept : (d : Damage) → Kept c (sent t block d c memory .side)
   sent-kept d = keeps (sent-ended t block s c memory idle d)
 
   -- the memory is as it was, or the token passed and the memory is the new one
@@ -92,8 +80,8 @@ module _ (t : Command) (block new : List ℕ) (s : Sendable t (payload t block))
 
 -- a command whose token passes is accepted: the status is clean, and its token is the last
 pub undamaged-works : (t : Command) (block : List ℕ) → Sendable t (payload t block) → (c : Card) (memory : List ℕ) → Idle c memory → Passes t c
-    → (sent t block undamaged c memory .card .port .status ≡ clean) × (sent t block undamaged c memory .card .port .last ≡ commandToken t)
-unfolding seen message wholeWords leftOver
+    → (sent t block undamaged c memory .side .port .status ≡ clean) × (sent t block undamaged c memory .side .port .last ≡ commandToken t)
+unfolding seen message wholeWords bitsLeft
 undamaged-works t block s c memory idle ok = go (sent-ended t block s c memory idle undamaged) (none-flipped (stream 16 (message t block)))
   where
     go : {line : List Bool} {c′ : Card} {memory′ : List ℕ} → Ended t (payload t block) c memory line c′ memory′ → line ≡ stream 16 (message t block)
@@ -106,14 +94,14 @@ undamaged-works t block s c memory idle ok = go (sent-ended t block s c memory i
         let count : length line / 16 ≡ length (message t block) = omega arith in
         let all : wholeWords line ≡ message t block
         = ap₂ words count (l ∙ sym (append-nil (stream 16 (message t block)))) ∙ words-stream (message t block) [] (s .below) in
-        let none-left : leftOver line ≡ 0 = omega arith in
+        let none-left : bitsLeft line ≡ 0 = omega arith in
         never (sym v ∙ ap₂ (λ (x : List ℕ) (left : ℕ). anySet (judgedBy c x left)) all none-left ∙ accepts t (payload t block) s (c .size) (c .bases) ok)
     go (Taken ws j same p q) l = (ap (λ (x : Card). x .port .status) p ∙ acted-status c _, ap (λ (x : Card). x .port .last) p ∙ acted-last c _ _ ws)
 
 -- ---- READBACK
 
 pub readback-sendable : Sendable readbackCommand (payload readbackCommand [])
-unfolding isReading blockFits Words
+unfolding isReading blockFits AreWords
 readback-sendable = sendable readbackCommand [] readback-fits (λ i. lit< tt) refl
 
 readback-effect : (c : Card) (memory : List ℕ) → Effect readbackCommand (payload readbackCommand []) memory c memory
@@ -129,7 +117,7 @@ abbrev pub readbackLine : List Bool
 readbackLine = stream 16 (message readbackCommand [])
 
 module _ (c : Card) (memory : List ℕ) (idle : Idle c memory) where
-  pub readback-kept : (d : Damage) → Kept c (sent readbackCommand [] d c memory .card)
+  pub readback-kept : (d : Damage) → Kept c (sent readbackCommand [] d c memory .side)
   readback-kept = sent-kept readbackCommand [] memory readback-sendable c memory idle (readback-effect c memory)
 
   -- it leaves the memory
@@ -138,7 +126,7 @@ module _ (c : Card) (memory : List ℕ) (idle : Idle c memory) where
 
 -- ---- WRITE
 
-module _ (sub : ℕ) (block : List ℕ) (n-fits : length block ≤ 63) (sub-fits : sub ≤ 255) (below : Words block) where
+module _ (sub : ℕ) (block : List ℕ) (n-fits : length block ≤ 63) (sub-fits : sub ≤ 255) (below : AreWords block) where
   abbrev w : Command
   w = writeOf (length block) sub
 

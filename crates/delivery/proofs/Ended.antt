@@ -9,24 +9,26 @@ use borrow.Author.Tests.{eqb-true}
 use lib.Dec.{eqb}
 use lib.ListN.{length, take, length-take}
 use lib.Seq.{take-all}
-use Rattle.crc.specs.Bits.{stream}
-use Rattle.link.specs.Lines.{wholeWords, leftOver}
-use Rattle.link.specs.Damage.{AtMostOne, Damage, Unseen, Cut, Flipped, flipped}
-use Rattle.link.proofs.Laws.{length-stream, length-words, length-flipped}
+use Rattle.bits.specs.Bits.{stream}
+use Rattle.bits.specs.Lines.{wholeWords, bitsLeft}
+use Rattle.link.specs.Damage.{Flips, Damage, Unseen, Cut, Flipped, flipped}
+use Rattle.bits.proofs.Lines.{length-stream, length-words}
+use Rattle.link.proofs.Laws.{length-flipped}
 use Rattle.rules.specs.Rules.{messageWords}
 use Rattle.token.specs.Command.{commandFirst, commandSecond}
 use Rattle.token.specs.declared.command.Command.{Command}
+use Rattle.token.proofs.CommandTrip.{limits}
 use Rattle.token.proofs.Good.{both}
 use Rattle.token.specs.Response.{anySet}
 use Rattle.judge.specs.Judge.{tokenStatus, isChecked}
-use Rattle.card.specs.Acting.{noted}
+use Rattle.card.specs.Release.{noted}
 use Rattle.card.specs.Run.{Run, Select, Word, Release}
-use Rattle.card.specs.declared.Answer.{Answer}
 use Rattle.card.specs.declared.Card.{Card}
-use Rattle.controller.specs.Messages.{payload, message}
-use Rattle.delivery.specs.Play.{after, listed, listened, cardAfter, memoryOf, refusalsOf, Crossed, heard, crossed}
-use Rattle.delivery.proofs.Held.{Idle}
-use Rattle.delivery.proofs.Closed.{judgedBy, unheard, cardActed, memoryActed, cardEnded, memoryEnded, Closed, closed}
+use Rattle.controller.specs.Builder.{payload, message}
+use Rattle.card.specs.Whole.{after, listened, cardAfterLine, memoryAfterLine, heard}
+use Rattle.delivery.specs.Play.{Crossed, crossed}
+use Rattle.card.proofs.Holding.{Idle}
+use Rattle.card.proofs.Closed.{judgedBy, unheard, cardActed, memoryActed, cardEnded, memoryEnded, card-heard, memory-heard, refusals-heard, heard-idle}
 use Rattle.delivery.proofs.Accept.{Whole, whole, Sendable, AsBuilt, built-flipped, built-cut}
 
 -- ---- a line that a card heard
@@ -38,7 +40,7 @@ Passes t c = anySet (tokenStatus (c .size) (c .bases) (commandFirst t) (commandS
 -- the three ends: the card and memory before, the line that the card saw, the card and memory after
 pub data Ended (t : Command) (rest : List ℕ) (c : Card) (memory : List ℕ) (line : List Bool) (c′ : Card) (memory′ : List ℕ) : Type 0 where
   Ignored : line ≡ [] → c′ ≡ c → memory′ ≡ memory → Ended t rest c memory line c′ memory′
-  Refused : anySet (judgedBy c (wholeWords line) (leftOver line)) ≡ true → c′ ≡ noted c (judgedBy c (wholeWords line) (leftOver line)) → memory′ ≡ memory
+  Refused : anySet (judgedBy c (wholeWords line) (bitsLeft line)) ≡ true → c′ ≡ noted c (judgedBy c (wholeWords line) (bitsLeft line)) → memory′ ≡ memory
       → Ended t rest c memory line c′ memory′
   Taken : (words : List ℕ) → Passes t c → (isChecked (t .code) ≡ true → words ≡ rest)
       → c′ ≡ cardActed c (commandFirst t ∷ commandSecond t ∷ words) → memory′ ≡ memoryActed c memory (commandFirst t ∷ commandSecond t ∷ words)
@@ -56,52 +58,39 @@ module _ (c : Card) (memory : List ℕ) (idle : Idle c memory) (line : List Bool
   unfolding wholeWords
   few = omega (arith, length-words (length line / 16) line)
 
-  left-small : leftOver line ≤ 15
-  unfolding leftOver
-  left-small = omega arith
-
-  is-closed : Closed c memory ws (leftOver line)
-  is-closed = closed c memory idle ws (leftOver line) left-small
-
   all-kept : take 67 ws ≡ ws
   all-kept = take-all 67 ws few
 
-  card-held : cardAfter c memory line ≡ cardEnded c ws (leftOver line)
-  unfolding cardAfter listened
-  card-held = ap (λ (a : Answer). a .card) (is-closed .card-is) ∙ ap (λ (l : List ℕ). cardEnded c l (leftOver line)) all-kept
+  card-held : cardAfterLine c memory line ≡ cardEnded c ws (bitsLeft line)
+  card-held = card-heard c memory idle line ∙ ap (λ (l : List ℕ). cardEnded c l (bitsLeft line)) all-kept
 
-  memory-held : memoryOf c memory line ≡ memoryEnded c memory ws (leftOver line)
-  unfolding memoryOf listened
-  memory-held = is-closed .memory-is ∙ ap (λ (l : List ℕ). memoryEnded c memory l (leftOver line)) all-kept
+  memory-held : memoryAfterLine c memory line ≡ memoryEnded c memory ws (bitsLeft line)
+  memory-held = memory-heard c memory idle line ∙ ap (λ (l : List ℕ). memoryEnded c memory l (bitsLeft line)) all-kept
 
-  quiet : refusalsOf c memory line ≡ []
-  unfolding refusalsOf listened listed
-  quiet = rw (is-closed .select-quiet, is-closed .words-quiet, is-closed .card-is)
-
-  ended : (t : Command) (rest : List ℕ) → (Whole (c .size) (c .bases) ws (leftOver line) → AsBuilt t rest (c .size) (c .bases) line)
-      → Ended t rest c memory line (cardAfter c memory line) (memoryOf c memory line)
-  unfolding cardEnded memoryEnded unheard leftOver wholeWords
-  ended t rest built = rw (card-held, memory-held) (silent (unheard ws (leftOver line)) refl)
+  ended : (t : Command) (rest : List ℕ) → (Whole (c .size) (c .bases) ws (bitsLeft line) → AsBuilt t rest (c .size) (c .bases) line)
+      → Ended t rest c memory line (cardAfterLine c memory line) (memoryAfterLine c memory line)
+  unfolding cardEnded memoryEnded unheard bitsLeft wholeWords
+  ended t rest built = rw (card-held, memory-held) (silent (unheard ws (bitsLeft line)) refl)
     where
-      acts : (b : Bool) → anySet (judgedBy c ws (leftOver line)) ≡ b
-          → Ended t rest c memory line (cond b (noted c (judgedBy c ws (leftOver line))) (cardActed c ws)) (cond b memory (memoryActed c memory ws))
+      acts : (b : Bool) → anySet (judgedBy c ws (bitsLeft line)) ≡ b
+          → Ended t rest c memory line (cond b (noted c (judgedBy c ws (bitsLeft line))) (cardActed c ws)) (cond b memory (memoryActed c memory ws))
       acts true e = Refused e refl refl
       acts false e =
-          let b : AsBuilt t rest (c .size) (c .bases) line = built (whole (c .size) (c .bases) ws (leftOver line) e) in
+          let b : AsBuilt t rest (c .size) (c .bases) line = built (whole (c .size) (c .bases) ws (bitsLeft line) e) in
           Taken (b .payload) (b .passes) (b .same) (ap (cardActed c) (b .are)) (ap (memoryActed c memory) (b .are))
 
-      silent : (b : Bool) → unheard ws (leftOver line) ≡ b
-          → Ended t rest c memory line (cond b c (cond (anySet (judgedBy c ws (leftOver line))) (noted c (judgedBy c ws (leftOver line))) (cardActed c ws)))
-          (cond b memory (cond (anySet (judgedBy c ws (leftOver line))) memory (memoryActed c memory ws)))
+      silent : (b : Bool) → unheard ws (bitsLeft line) ≡ b
+          → Ended t rest c memory line (cond b c (cond (anySet (judgedBy c ws (bitsLeft line))) (noted c (judgedBy c ws (bitsLeft line))) (cardActed c ws)))
+          (cond b memory (cond (anySet (judgedBy c ws (bitsLeft line))) memory (memoryActed c memory ws)))
       silent true e =
           let (count, left) = both (eqb (length ws) 0) _ e in
           Ignored (no-bits line (sym (length-words (length line / 16) line) ∙ eqb-true _ _ count) (eqb-true _ _ left)) refl refl
-      silent false e = acts (anySet (judgedBy c ws (leftOver line))) refl
+      silent false e = acts (anySet (judgedBy c ws (bitsLeft line))) refl
 
 -- ---- any built command under any damage
 
 -- a command sent
-unfoldable pub sent : Command → List ℕ → Damage → Card → List ℕ → Crossed
+unfoldable pub sent : Command → List ℕ → Damage → Card → List ℕ → Crossed Card
 sent t block d c memory = crossed heard d c memory (stream 16 (message t block))
 
 -- what the card sees of a line
@@ -120,15 +109,15 @@ module _ (t : Command) (block : List ℕ) (s : Sendable t (payload t block)) (c 
     where
       go : (b : Bool) → suc (suc (length (payload t block))) ≡ cond b 2 (t .length + 3) → length built ≤ 67 * 16
       go true h = omega (arith, length-stream (message t block))
-      go false h = omega (arith, length-stream (message t block), s .fits .length)
+      go false h = omega (arith, length-stream (message t block), limits t (s .fits))
 
   cut-short : (k : ℕ) → length (take k built) ≤ 67 * 16
   cut-short k = omega (arith, length-take k built, built-long)
 
-  flipped-short : (o : AtMostOne) → length (flipped o built) ≤ 67 * 16
+  flipped-short : (o : Flips) → length (flipped o built) ≤ 67 * 16
   flipped-short o = omega (arith, length-flipped o built, built-long)
 
-  pub sent-ended : (d : Damage) → Ended t (payload t block) c memory (seen d built) (sent t block d c memory .card) (sent t block d c memory .memory)
+  pub sent-ended : (d : Damage) → Ended t (payload t block) c memory (seen d built) (sent t block d c memory .side) (sent t block d c memory .memory)
   unfolding sent crossed heard seen message
   sent-ended (Unseen fill) = Ignored refl refl refl
   sent-ended (Cut k fill) = ended c memory idle (take k built) (cut-short k) t (payload t block) (built-cut t (payload t block) s (c .size) (c .bases) k)
@@ -137,21 +126,28 @@ module _ (t : Command) (block : List ℕ) (s : Sendable t (payload t block)) (c 
   pub sent-quiet : (d : Damage) → sent t block d c memory .refused ≡ []
   unfolding sent crossed heard
   sent-quiet (Unseen fill) = refl
-  sent-quiet (Cut k fill) = quiet c memory idle (take k built) (cut-short k)
-  sent-quiet (Flipped i j) = quiet c memory idle (flipped i built) (flipped-short i)
+  sent-quiet (Cut k fill) = refusals-heard c memory idle (take k built)
+  sent-quiet (Flipped i j) = refusals-heard c memory idle (flipped i built)
 
--- ---- a card goes on running through any message
+-- ---- after any message the card is idle again, and goes on running
+
+pub crossed-idle : (c : Card) (memory : List ℕ) → Idle c memory → (d : Damage) (line : List Bool)
+    → Idle (crossed heard d c memory line .side) (crossed heard d c memory line .memory)
+unfolding crossed heard
+crossed-idle c memory idle (Unseen fill) line = idle
+crossed-idle c memory idle (Cut k fill) line = heard-idle c memory idle (take k line)
+crossed-idle c memory idle (Flipped i j) line = heard-idle c memory idle (flipped i line)
 
 run-after : {c : Card} → Run c → (memory ws : List ℕ) → Run (after c memory ws)
 unfolding after
 run-after r memory [] = r
 run-after r memory (w ∷ ws) = run-after (Word r memory w) memory ws
 
-run-heard : {c : Card} → Run c → (memory : List ℕ) (line : List Bool) → Run (cardAfter c memory line)
-unfolding cardAfter listened
-run-heard r memory line = Release (run-after (Select r) memory (wholeWords line)) (length memory) (leftOver line)
+run-heard : {c : Card} → Run c → (memory : List ℕ) (line : List Bool) → Run (cardAfterLine c memory line)
+unfolding cardAfterLine listened
+run-heard r memory line = Release (run-after (Select r) memory (wholeWords line)) (length memory) (bitsLeft line)
 
-pub run-sent : {c : Card} → Run c → (t : Command) (block : List ℕ) (d : Damage) (memory : List ℕ) → Run (sent t block d c memory .card)
+pub run-sent : {c : Card} → Run c → (t : Command) (block : List ℕ) (d : Damage) (memory : List ℕ) → Run (sent t block d c memory .side)
 unfolding sent crossed heard
 run-sent r t block (Unseen fill) memory = r
 run-sent r t block (Cut k fill) memory = run-heard r memory _

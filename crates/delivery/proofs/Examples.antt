@@ -1,77 +1,136 @@
--- Whole plays, computed: a memory of four words, and the sure write of 7 to sub-address 1.
+-- Whole plays, computed: a memory of four words, and the sure write of 7 to sub-address 1. And the premises of demand 3 can be met.
 -- Assumes nothing.
-use Prim.Native.Nat.{ℕ}
+use Prim.Native.Nat.{ℕ, zero, suc, _<_}
 use mathlib.Core.Option.{none, some}
 use mathlib.Core.Path.{_≡_, refl}
 use mathlib.Core.Bool.{true, false}
 use mathlib.Core.List.{List, [], _∷_}
-use Rattle.crc.specs.Bits.{bits, number, stream}
+use Rattle.bits.specs.Bits.{bits, number, stream}
 use Rattle.crc.specs.Crc.{shift, step, feed, crc, taps4, taps16, crc4, crc16After, agrees}
-use Rattle.link.specs.Lines.{words, wholeWords, leftOver}
+use lib.Dec.{lit<, lit≤}
+use lib.ListN.{getD}
+use Rattle.bits.specs.Lines.{AreWords, words, wholeWords, bitsLeft}
 use Rattle.link.specs.Damage.{Damage, Unseen, Cut, Flipped, undamaged, flipAt, flipped, filled}
 use Rattle.rules.specs.Rules.{table, rowIn, ruleOf, messageWords}
 use Rattle.token.specs.Command.{commandFirst, commandUpper, commandSecond, commandFits, commandMarks, goodCommand, commandFields}
 use Rattle.token.specs.Marks.{withCheck, checkRight, goodMarks}
-use Rattle.token.specs.Response.{responseFirst, responseSecond, responseMarks, goodResponse, responseFields, anySet}
+use Rattle.token.specs.Response.{responseFirst, responseSecond, responseMarks, goodResponse, responseFields, responseRead, anySet}
 use Rattle.judge.specs.Judge.{firstFailing, step1, lengthFits, subFits, subStatus, step2, wordPlace, inside, step3, tokenStatus, step4, isChecked, checkStatus, step5, endStatus, judgement}
-use Rattle.card.specs.Acting.{basesAfter, timeAfter, written, silent, verdict, acted, noted, ended, writes, stored, endedMemory}
-use Rattle.card.specs.Card.{selected, wordRefusal, exchanged, releaseRefusal, released, memoryAfter}
-use Rattle.card.specs.Sending.{readbackWord, passedWord, payloadWord, nextWord, sendsRead, checkAfter, taken}
+use Rattle.card.specs.Release.{basesAfter, timeAfter, silent, judged, acted, noted, ended, writes, stored, endedMemory, releaseRefusal, released, memoryAfter}
+use Rattle.bits.specs.Buffers.{written}
+use Rattle.card.specs.Card.{powered, selected, moduleRefusal, moduleSet, wordRefusal}
+use Rattle.card.specs.Run as run
+use Rattle.card.specs.Exchange.{exchanged, readbackWord, passedWord, payloadWord, nextWord, told, sendsRead, checkAfter, taken}
 use Rattle.card.specs.State.{emptied, fresh, sized, outOfRange}
 use Rattle.card.specs.declared.Card.{Card}
-use Rattle.controller.specs.Answers.{readRefusal, tokenGood, payloadGood, fieldsRead, answerRead}
-use Rattle.controller.specs.Messages.{isReading, withCheckWord, payload, message, blockFits, buildRefusal, bufferAfter}
-use Rattle.controller.specs.Sure.{readbackCommand, commandAt, isAsk, isGive, readGood, passes, confirms, turnAfter, started, outOfState, askRefusal, asked, askedBuffer, giveRefusal, given, verdictOf}
-use Rattle.controller.specs.declared.Verdict.{Verdict}
+use Rattle.controller.specs.Reader.{readRefusal, tokenGood, payloadGood, fieldsRead, answerRead}
+use Rattle.controller.specs.Builder.{isReading, withCheckWord, payload, message, blockFits, buildRefusal, bufferAfter}
+use Rattle.controller.specs.Sure as controller
+use Rattle.controller.specs.Sure.{readbackCommand, commandAt, isAsk, isGive, readGood, passes, confirms, turnAfter, started, askRefusal, asked, askedBuffer, giveRefusal, given, Said, verdictGives, verdictOf}
 use Rattle.controller.specs.declared.Verdict.the-variants.{Done, Unsure}
-use Rattle.delivery.specs.Delivery.{sureWrite}
-use Rattle.delivery.specs.Play.{after, answers, listened, cardAfter, memoryOf, sentBits, heard, crossed, askedWords, round, play}
+use Rattle.delivery.specs.Delivery.{inWords, atPins, Inside, Room, sureWrite, Premises}
+use Rattle.card.specs.Whole.{after, answers, listened, cardAfterLine, memoryAfterLine, sentBits, heard}
+use Rattle.delivery.specs.Play.{crossed, settings, askedWords, round, between, Buffers, Calls, play}
+use Rattle.pins.specs.Pins.{poweredPins}
+use Rattle.pins.specs.Run as pins-run
+use Rattle.pins.specs.declared.Pins.{Pins}
 use Rattle.delivery.proofs.Ended.{sent}
 use Rattle.delivery.proofs.Judged.{writeOf}
 
--- a card after power-up
-unfoldable pub powered : Card
-powered = fresh 4
+-- a card after power-up, alone and behind its shifter
+unfoldable pub started-up : Card
+started-up = powered 4 .card
 
--- and one that accepted this very WRITE before; since then the device has written 5 over what it stored
+unfoldable pub started-up-pins : Pins
+started-up-pins = poweredPins 4 .pins
+
+-- and one that accepted this very WRITE before
 unfoldable pub written-before : Card
-written-before = sent (writeOf 1 1) (7 ∷ []) undamaged (fresh 4) (1 ∷ 2 ∷ 3 ∷ 4 ∷ []) .card
+written-before = sent (writeOf 1 1) (7 ∷ []) undamaged started-up (1 ∷ 2 ∷ 3 ∷ 4 ∷ []) .side
 
--- the verdict and the memory after
-unfoldable pub end : Card → List ℕ → Damage → Damage → Damage → Verdict × List ℕ
+-- buffers that are just long enough, and not empty before
+unfoldable pub buffers : Buffers
+buffers = record { first = 9 ∷ 9 ∷ 9 ∷ 9 ∷ 9 ∷ []; second = 9 ∷ 9 ∷ 9 ∷ 9 ∷ []; third = 8 ∷ 8 ∷ 8 ∷ 8 ∷ 8 ∷ [] }
+
+-- ---- the premises of demand 3 can be met
+
+met-room : Room (7 ∷ []) buffers
+unfolding buffers messageWords
+met-room = record { first = lit≤ tt; second = lit≤ tt; third = lit≤ tt }
+
+met-words : AreWords (7 ∷ [])
+unfolding AreWords
+met-words zero = lit< tt
+met-words (suc i) = lit< tt
+
+pub met-in-words : Premises inWords started-up (1 ∷ 2 ∷ 3 ∷ 4 ∷ []) 1 (7 ∷ []) buffers
+unfolding started-up powered fresh sized emptied
+met-in-words = record {
+  run = run.PowerUp 4 refl;
+  idle = refl;
+  lent = refl;
+  sub-address = lit≤ tt;
+  short = lit≤ tt;
+  words = met-words;
+  room = met-room;
+}
+
+pub met-at-pins : Premises atPins started-up-pins (1 ∷ 2 ∷ 3 ∷ 4 ∷ []) 1 (7 ∷ []) buffers
+unfolding started-up-pins poweredPins powered fresh sized emptied
+met-at-pins = record {
+  run = pins-run.PowerUp 4 refl;
+  idle = refl;
+  lent = refl;
+  sub-address = lit≤ tt;
+  short = lit≤ tt;
+  words = met-words;
+  room = met-room;
+}
+
+pub met-inside : Inside started-up 1 (7 ∷ [])
+unfolding started-up powered fresh sized wordPlace
+met-inside = lit≤ tt
+
+-- ---- each damage happens
+
+-- what the sure write says, and the memory after; the device sets STF and module state before the second message, and before the third in vain
+unfoldable pub calls : Calls
+calls = record { second = record { stf = true; state = 5 } ∷ []; third = record { stf = false; state = 16 } ∷ [] }
+
+unfoldable pub end : Card → List ℕ → Damage → Damage → Damage → Said × List ℕ
 end c memory d₁ d₂ d₃ =
-    let g = sureWrite (λ n. heard) c memory 1 (7 ∷ []) d₁ d₂ d₃ in
+    let g = sureWrite inWords c memory 1 (7 ∷ []) buffers (record { first = d₁; second = d₂; third = d₃ }) calls in
     (verdictOf (g .state), g .memory)
 
 pub record Plays : Type 0 where
-  pub undamaged-done : end powered (1 ∷ 2 ∷ 3 ∷ 4 ∷ []) undamaged undamaged undamaged ≡ (Done, 1 ∷ 7 ∷ 3 ∷ 4 ∷ [])
+  pub undamaged-done : end started-up (1 ∷ 2 ∷ 3 ∷ 4 ∷ []) undamaged undamaged undamaged ≡ (verdictGives Done, 1 ∷ 7 ∷ 3 ∷ 4 ∷ [])
   -- the accident: select drops in the middle of the WRITE
-  pub accident : end powered (1 ∷ 2 ∷ 3 ∷ 4 ∷ []) undamaged (Cut 40 false) undamaged ≡ (Unsure, 1 ∷ 2 ∷ 3 ∷ 4 ∷ [])
+  pub accident : end started-up (1 ∷ 2 ∷ 3 ∷ 4 ∷ []) undamaged (Cut 40 false) undamaged ≡ (verdictGives Unsure, 1 ∷ 2 ∷ 3 ∷ 4 ∷ [])
   -- one bit of the WRITE's block flipped: the card refuses it
-  pub block-flipped : end powered (1 ∷ 2 ∷ 3 ∷ 4 ∷ []) undamaged (Flipped (some 40) none) undamaged ≡ (Unsure, 1 ∷ 2 ∷ 3 ∷ 4 ∷ [])
+  pub block-flipped : end started-up (1 ∷ 2 ∷ 3 ∷ 4 ∷ []) undamaged (Flipped (some 40) none) undamaged ≡ (verdictGives Unsure, 1 ∷ 2 ∷ 3 ∷ 4 ∷ [])
   -- one bit of the last answer flipped: written, but not told
-  pub answer-flipped : end powered (1 ∷ 2 ∷ 3 ∷ 4 ∷ []) undamaged undamaged (Flipped none (some 3)) ≡ (Unsure, 1 ∷ 7 ∷ 3 ∷ 4 ∷ [])
+  pub answer-flipped : end started-up (1 ∷ 2 ∷ 3 ∷ 4 ∷ []) undamaged undamaged (Flipped none (some 3)) ≡ (verdictGives Unsure, 1 ∷ 7 ∷ 3 ∷ 4 ∷ [])
   -- the last READBACK cut by its last bit: it is refused, but told already
-  pub cut-at-the-end : end powered (1 ∷ 2 ∷ 3 ∷ 4 ∷ []) undamaged undamaged (Cut 79 false) ≡ (Done, 1 ∷ 7 ∷ 3 ∷ 4 ∷ [])
-  -- the WRITE unseen, and the last token equal from before: the first READBACK, which became the last token, keeps the verdict from Done
-  pub write-unseen : end written-before (1 ∷ 5 ∷ 3 ∷ 4 ∷ []) undamaged (Unseen false) undamaged ≡ (Unsure, 1 ∷ 5 ∷ 3 ∷ 4 ∷ [])
+  pub cut-at-the-end : end started-up (1 ∷ 2 ∷ 3 ∷ 4 ∷ []) undamaged undamaged (Cut 79 false) ≡ (verdictGives Done, 1 ∷ 7 ∷ 3 ∷ 4 ∷ [])
+  -- from here on the device has written 5 over what was stored before. The WRITE unseen, and the last token equal: the first READBACK, which became the last token, keeps the verdict from Done
+  pub write-unseen : end written-before (1 ∷ 5 ∷ 3 ∷ 4 ∷ []) undamaged (Unseen false) undamaged ≡ (verdictGives Unsure, 1 ∷ 5 ∷ 3 ∷ 4 ∷ [])
   -- the first READBACK unseen too: that it must pass keeps the verdict from Done
-  pub both-unseen : end written-before (1 ∷ 5 ∷ 3 ∷ 4 ∷ []) (Unseen true) (Unseen false) undamaged ≡ (Unsure, 1 ∷ 5 ∷ 3 ∷ 4 ∷ [])
+  pub both-unseen : end written-before (1 ∷ 5 ∷ 3 ∷ 4 ∷ []) (Unseen true) (Unseen false) undamaged ≡ (verdictGives Unsure, 1 ∷ 5 ∷ 3 ∷ 4 ∷ [])
   -- the first READBACK cut by its last bit: the card refuses it, it passes all the same, and the status alone keeps the verdict from Done
   pub passes-all-the-same : passes (words 5 (sent readbackCommand [] (Cut 79 false) written-before (1 ∷ 5 ∷ 3 ∷ 4 ∷ []) .got)) ≡ true
-  pub status-alone : end written-before (1 ∷ 5 ∷ 3 ∷ 4 ∷ []) (Cut 79 false) (Unseen false) undamaged ≡ (Unsure, 1 ∷ 5 ∷ 3 ∷ 4 ∷ [])
+  pub status-alone : end written-before (1 ∷ 5 ∷ 3 ∷ 4 ∷ []) (Cut 79 false) (Unseen false) undamaged ≡ (verdictGives Unsure, 1 ∷ 5 ∷ 3 ∷ 4 ∷ [])
 
 pub plays : Plays
-unfolding powered written-before end bits number stream shift step feed crc taps4 taps16 crc4 crc16After agrees words wholeWords leftOver flipAt flipped filled
+unfolding started-up buffers calls written-before end bits number stream shift step feed crc taps4 taps16 crc4 crc16After agrees words wholeWords bitsLeft flipAt flipped filled
     table rowIn ruleOf messageWords commandFirst commandUpper commandSecond commandFits commandMarks goodCommand commandFields
-    withCheck checkRight goodMarks responseFirst responseSecond responseMarks goodResponse responseFields
+    withCheck checkRight goodMarks responseFirst responseSecond responseMarks goodResponse responseFields responseRead
     anySet firstFailing step1 lengthFits subFits subStatus step2 wordPlace inside step3 tokenStatus step4 isChecked checkStatus step5 endStatus judgement
-    basesAfter timeAfter written silent verdict acted noted ended writes stored endedMemory
-    selected wordRefusal exchanged releaseRefusal released memoryAfter readbackWord passedWord payloadWord nextWord sendsRead checkAfter taken
-    emptied fresh sized outOfRange readRefusal tokenGood payloadGood fieldsRead answerRead
+    basesAfter timeAfter written silent judged acted noted ended writes stored endedMemory
+    selected wordRefusal exchanged releaseRefusal released memoryAfter readbackWord passedWord payloadWord nextWord told sendsRead checkAfter taken
+    powered emptied fresh sized outOfRange readRefusal tokenGood payloadGood fieldsRead answerRead
     isReading withCheckWord payload message blockFits buildRefusal bufferAfter
-    commandAt isAsk isGive readGood passes confirms turnAfter started outOfState askRefusal asked askedBuffer giveRefusal given verdictOf
-    after answers listened cardAfter memoryOf sentBits heard crossed askedWords round play sent
+    commandAt isAsk isGive readGood passes confirms turnAfter started controller.outOfRange askRefusal asked askedBuffer giveRefusal given verdictOf
+    after answers listened cardAfterLine memoryAfterLine sentBits heard crossed settings askedWords round between play sent moduleRefusal moduleSet
 plays =
     record {
       undamaged-done = refl;

@@ -10,25 +10,26 @@ use mathlib.Core.List.{List, [], _∷_, _++_}
 use lib.Dec.{lit≤}
 use lib.ListN.{length, take, drop, replicate, length-take, take-append-drop}
 use lib.Seq.{take-append-le, take-all, take-take}
-use Rattle.crc.specs.Bits.{number, stream}
+use Rattle.bits.specs.Bits.{number, stream}
 use Rattle.crc.specs.Crc.{crc16}
-use Rattle.crc.proofs.Words.{stream-append}
-use Rattle.link.specs.Lines.{words, wholeWords}
-use Rattle.link.specs.Damage.{AtMostOne, Damage, Unseen, Cut, Flipped, flipped, filled, undamaged}
-use Rattle.link.proofs.Laws.{length-stream, stream-words, words-take, words-below, words-two, none-flipped, length-flipped, Words}
-use Rattle.link.proofs.Kept.{behind-token, token-same}
+use Rattle.bits.proofs.Lines.{stream-append, length-stream, stream-words, words-take, words-below, words-two}
+use Rattle.bits.specs.Lines.{words, wholeWords, AreWords}
+use Rattle.link.specs.Damage.{Flips, Damage, Unseen, Cut, Flipped, flipped, filled, undamaged}
+use Rattle.link.proofs.Laws.{none-flipped, length-flipped}
+use Rattle.link.proofs.Spoilt.{behind-token, token-same}
 use Rattle.rules.specs.Rules.{messageWords}
 use Rattle.token.specs.Command.{commandFirst, commandSecond}
 use Rattle.token.specs.Response.{responseFirst, responseSecond, anySet}
 use Rattle.token.proofs.CommandTrip.{command-fields}
 use Rattle.judge.specs.Judge.{tokenStatus}
-use Rattle.card.specs.Sending.{responseOf, readbackWord, passedWord, payloadWord, nextWord}
+use Rattle.card.specs.Exchange.{responseOf, readbackWord, passedWord, payloadWord, nextWord}
 use Rattle.card.specs.declared.Card.{Card}
-use Rattle.controller.specs.Messages.{isReading, payload, message}
+use Rattle.controller.specs.Builder.{isReading, payload, message}
 use Rattle.controller.specs.Sure.{readbackCommand}
-use Rattle.delivery.specs.Play.{listened, sentBits, heard, crossed}
-use Rattle.delivery.proofs.Held.{Idle, room, holding, push, spoken, spoken-before}
-use Rattle.delivery.proofs.Closed.{closed}
+use Rattle.card.specs.Whole.{listened, sentBits, heard}
+use Rattle.delivery.specs.Play.{crossed}
+use Rattle.card.proofs.Holding.{Idle, room, holding, push, spoken, spoken-before}
+use Rattle.card.proofs.Closed.{closed}
 use Rattle.delivery.proofs.Judged.{passed-check, built-check, readback-fits, readback-passes}
 use Rattle.delivery.proofs.Ended.{sent, seen}
 use Rattle.delivery.proofs.Effects.{readbackLine, readback-sendable}
@@ -98,10 +99,10 @@ not-shown ws k h = ap (take k) (stream-append 16 ws (0 ∷ [])) ∙ take-append-
 
 -- ---- the line that the card saw, and what the controller got: the full answer, filled from a cut on, or with a bit flipped; or the mute one
 
-pub data Heard (c : Card) (line got : List Bool) : Type 0 where
-  Filled : (k : ℕ) (fill : Bool) → (line ≡ [] → k ≡ 0) → got ≡ filled k fill 80 (stream 16 (full c)) → Heard c line got
-  Turned : (j : AtMostOne) → (line ≡ [] → ⊥) → got ≡ flipped j (stream 16 (full c)) → Heard c line got
-  Muted : (j : AtMostOne) → (line ≡ [] → ⊥) → got ≡ flipped j (stream 16 (mute c)) → Heard c line got
+pub data Got (c : Card) (line got : List Bool) : Type 0 where
+  Filled : (k : ℕ) (fill : Bool) → (line ≡ [] → k ≡ 0) → got ≡ filled k fill 80 (stream 16 (full c)) → Got c line got
+  Turned : (j : Flips) → (line ≡ [] → ⊥) → got ≡ flipped j (stream 16 (full c)) → Got c line got
+  Muted : (j : Flips) → (line ≡ [] → ⊥) → got ≡ flipped j (stream 16 (mute c)) → Got c line got
 
 module _ (c : Card) (memory : List ℕ) (idle : Idle c memory) where
   sent-spoken : (line : List Bool) → sentBits c memory line ≡ take (length line) (stream 16 (spoken c memory [] 0 (wholeWords line)))
@@ -126,11 +127,11 @@ module _ (c : Card) (memory : List ℕ) (idle : Idle c memory) where
       ∙ ap (λ (x : ℕ). take x (stream 16 (full c))) (long ∙ ap (min k) (sym (full-long c)))
       ∙ take-min k (stream 16 (full c))
     where
-      below : Words (rb₁ ∷ rb₂ ∷ 0 ∷ 0 ∷ 0 ∷ [])
+      below : AreWords (rb₁ ∷ rb₂ ∷ 0 ∷ 0 ∷ 0 ∷ [])
       below = unfold payload isReading messageWords in readback-sendable .below
 
   -- a token with a bit turned over is refused, and then the card sends zeros
-  flipped-bits : (i : AtMostOne) → (sentBits c memory (flipped i readbackLine) ≡ stream 16 (full c)) ⊎ (sentBits c memory (flipped i readbackLine) ≡ stream 16 (mute c))
+  flipped-bits : (i : Flips) → (sentBits c memory (flipped i readbackLine) ≡ stream 16 (full c)) ⊎ (sentBits c memory (flipped i readbackLine) ≡ stream 16 (mute c))
   unfolding wholeWords words
   flipped-bits i = go (anySet (tokenStatus (c .size) (c .bases) a b)) refl
     where
@@ -169,7 +170,7 @@ module _ (c : Card) (memory : List ℕ) (idle : Idle c memory) where
           (words-two _ _ _ (readback-sendable .below)) (words-two a b _ (words-below 5 l)) (built-check readbackCommand readback-fits) (passed-check _ _ a b e) in
           inl (bits-are (full c) (full-long c) (ap₂ (λ (x y : ℕ). spoken c memory [] 0 (x ∷ y ∷ drop 2 (words 5 l))) p q ∙ spoken-full c memory _ _ _))
 
-  pub readback-heard : (d : Damage) → Heard c (seen d readbackLine) (sent readbackCommand [] d c memory .got)
+  pub readback-heard : (d : Damage) → Got c (seen d readbackLine) (sent readbackCommand [] d c memory .got)
   unfolding seen sent crossed heard filled
   readback-heard (Unseen fill) = Filled 0 fill (λ e. refl) (ap (λ (n : ℕ). replicate n fill) readback-long)
   readback-heard (Cut k fill) =

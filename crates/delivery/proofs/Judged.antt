@@ -6,10 +6,9 @@ use native.Mathlib.Omega.{arith}
 use mathlib.Core.Path.{_≡_, refl, sym, _∙_}
 use mathlib.Core.Bool.{Bool, true, false, not, _&&_}
 use borrow.Author.Tests.{le-leb}
-use lib.Dec.{lit≤}
 use Rattle.crc.specs.Crc.{crc4}
 use Rattle.rules.specs.Rules.{ruleOf, table, rowIn, write}
-use Rattle.token.specs.Command.{command, commandFirst, commandSecond, commandMarks, goodCommand}
+use Rattle.token.specs.Command.{command, commandFits, commandFirst, commandSecond, commandMarks, goodCommand}
 use Rattle.token.specs.Marks.{goodMarks}
 use Rattle.token.specs.Response.{status, clean, goodResponse, anySet}
 use Rattle.token.specs.declared.command.Command.{Command}
@@ -45,7 +44,8 @@ good-passes first second h = go (commandMarks first second .prefix) (commandMark
     go false s c h = never (sym h)
 
 pub readback-fits : CommandFits readbackCommand
-readback-fits = record { code = lit≤ tt; length = lit≤ tt; sub-address = lit≤ tt }
+unfolding commandFits
+readback-fits = refl
 
 pub readback-passes : (size : ℕ) (b : Bases) → anySet (tokenStatus size b (commandFirst readbackCommand) (commandSecond readbackCommand)) ≡ false
 unfolding tokenStatus firstFailing anySet step2 lengthFits subStatus subFits step3 ruleOf table rowIn
@@ -64,7 +64,8 @@ module _ (n sub : ℕ) (n-fits : n ≤ 63) (sub-fits : sub ≤ 255) where
   w = writeOf n sub
 
   pub write-fits : CommandFits w
-  write-fits = record { code = lit≤ tt; length = n-fits; sub-address = sub-fits }
+  unfolding commandFits
+  write-fits = rw (le-leb n 63 n-fits, le-leb sub 255 sub-fits)
 
   module _ (size : ℕ) (b : Bases) where
     -- inside, so it passes

@@ -8,31 +8,32 @@ use mathlib.Core.Path.{_≡_, sym, ap, _∙_}
 use mathlib.Core.Bool.{Bool, true, false, not, _&&_, true≢false}
 use mathlib.Core.List.{List, [], _∷_}
 use borrow.Author.Tests.{eqb-true, not-true}
-use lib.Dec.{eqb, ltb, lit<, lit≤}
+use lib.Dec.{eqb, ltb, lit<}
 use lib.ListN.{length, getD, take, drop, replicate, length-take, length-drop}
 use lib.Seq.{take-at, take-append-le, take-take, getD-take, getD-drop, length-take-le}
-use Rattle.crc.specs.Bits.{digit, bits, number, stream}
+use Rattle.bits.specs.Bits.{bits, number, stream}
 use Rattle.crc.specs.Crc.{crc16, agrees}
-use Rattle.crc.proofs.Digits.{length-bits, bits-number, number-bits}
+use Rattle.bits.proofs.Digits.{length-bits, bits-number, number-bits, digit-lt}
 use Rattle.crc.proofs.Words.{crc4-lt}
-use Rattle.link.specs.Lines.{words}
-use Rattle.link.specs.Damage.{AtMostOne, flipped, filled}
-use Rattle.link.proofs.Laws.{Words, stream-words, words-below, length-flipped, length-filled, filled-kept, words-two}
-use Rattle.link.proofs.Kept.{token-same, behind-token}
+use Rattle.bits.specs.Lines.{words, AreWords}
+use Rattle.link.specs.Damage.{Flips, flipped, filled}
+use Rattle.bits.proofs.Lines.{stream-words, words-below, words-two}
+use Rattle.link.proofs.Laws.{length-flipped, length-filled, filled-kept}
+use Rattle.link.proofs.Spoilt.{token-same, behind-token}
 use Rattle.rules.specs.Rules.{messageWords}
 use Rattle.token.specs.Command.{commandFirst, commandSecond}
 use Rattle.token.specs.Marks.{at, withCheck}
-use Rattle.token.specs.Response.{responseFirst, responseUpper, responseSecond, goodResponse, responseFields, anySet}
+use Rattle.token.specs.Response.{responseFirst, responseUpper, responseSecond, goodResponse, responseFields, responseRead, anySet}
 use Rattle.token.specs.declared.command.Command.{Command}
 use Rattle.token.specs.declared.response.Response.{Response}
 use Rattle.token.proofs.Good.{both, good-response}
 use Rattle.token.proofs.ResponseTrip.{response-good, response-fields}
-use Rattle.card.specs.Sending.{responseOf}
+use Rattle.card.specs.Exchange.{responseOf}
 use Rattle.card.specs.declared.Card.{Card}
-use Rattle.controller.specs.Answers.{Answer, readRefusal, tokenGood, payloadGood, fieldsRead, answerRead}
+use Rattle.controller.specs.Reader.{Answer, readRefusal, tokenGood, payloadGood, fieldsRead, answerRead}
 use Rattle.controller.specs.Sure.{readGood, passes, confirms}
 use Rattle.delivery.proofs.Judged.{response-check}
-use Rattle.delivery.proofs.Heard.{r₁, r₂, full, mute, full-long, mute-long, Heard, Filled, Turned, Muted}
+use Rattle.delivery.proofs.Heard.{r₁, r₂, full, mute, full-long, mute-long, Got, Filled, Turned, Muted}
 
 -- ---- what a reading of five words tells
 
@@ -42,11 +43,11 @@ module _ (ws : List ℕ) (five : length ws ≡ 5) where
   not-refused = rw five
 
   pub read-good : readGood ws ≡ (goodResponse (getD ws 0 0) (getD ws 1 0) && agrees 2 (drop 2 ws))
-  unfolding readGood payloadGood tokenGood
+  unfolding readGood payloadGood tokenGood responseRead
   read-good = ap (λ (a : Answer). a .payload) not-refused
 
   pub read-fields : goodResponse (getD ws 0 0) (getD ws 1 0) ≡ true → answerRead 2 ws .fields ≡ responseFields (getD ws 0 0) (getD ws 1 0)
-  unfolding fieldsRead tokenGood
+  unfolding fieldsRead responseRead
   read-fields good = ap (λ (a : Answer). a .fields) not-refused ∙ rw good
 
   -- a first READBACK that passes has a good token
@@ -78,10 +79,6 @@ confirmed t ws five h =
 
 -- ---- the card's own response token
 
-digit-small : (b : Bool) → digit b ≤ 1
-digit-small true = lit≤ tt
-digit-small false = lit≤ tt
-
 module _ (c : Card) (fits : c .«module_state» ≤ 15) where
   -- the status stands in the first word
   pub response-status : (second : ℕ) → responseFields (r₁ c) second .status ≡ c .port .status
@@ -91,12 +88,12 @@ module _ (c : Card) (fits : c .«module_state» ≤ 15) where
   pub response-below : (r₁ c < 65536) × (r₂ c < 65536)
   unfolding responseFirst responseSecond withCheck
   response-below = (
-    omega (arith, fits, digit-small (c .stf), digit-small (c .port .status .me), digit-small (c .port .status .ar), digit-small (c .port .status .ic)),
+    omega (arith, fits, digit-lt (c .stf), digit-lt (c .port .status .me), digit-lt (c .port .status .ar), digit-lt (c .port .status .ic)),
     omega (arith, crc4-lt (r₁ c) responseUpper),
   )
 
-  own-below : Words (r₁ c ∷ r₂ c ∷ [])
-  unfolding Words
+  own-below : AreWords (r₁ c ∷ r₂ c ∷ [])
+  unfolding AreWords
   own-below zero = response-below .0
   own-below (suc zero) = response-below .1
   own-below (suc (suc i)) = lit< tt
@@ -117,7 +114,7 @@ prefix-bits w h e =
     let b : w / 16384 % 2 ≡ 0 = omega arith in
     true≢false (rw (a, b) at e)
 
-pub length-got : (c : Card) (line got : List Bool) → Heard c line got → length got ≡ 80
+pub length-got : (c : Card) (line got : List Bool) → Got c line got → length got ≡ 80
 length-got c line got (Filled k fill p e) = ap length e ∙ length-filled k fill 80 (stream 16 (full c)) (full-long c)
 length-got c line got (Turned j p e) = ap length e ∙ length-flipped j (stream 16 (full c)) ∙ full-long c
 length-got c line got (Muted j p e) = ap length e ∙ length-flipped j (stream 16 (mute c)) ∙ mute-long c
@@ -125,7 +122,7 @@ length-got c line got (Muted j p e) = ap length e ∙ length-flipped j (stream 1
 module _ (c : Card) (fits : c .«module_state» ≤ 15) (line got : List Bool) (long : length got ≡ 80)
     (good : goodResponse (getD (words 5 got) 0 0) (getD (words 5 got) 1 0) ≡ true) where
   -- with a bit turned over: the check tells
-  turned-first : (rest : List ℕ) (j : AtMostOne) → got ≡ flipped j (stream 16 (r₁ c ∷ r₂ c ∷ rest)) → getD (words 5 got) 0 0 ≡ r₁ c
+  turned-first : (rest : List ℕ) (j : Flips) → got ≡ flipped j (stream 16 (r₁ c ∷ r₂ c ∷ rest)) → getD (words 5 got) 0 0 ≡ r₁ c
   unfolding words
   turned-first rest j e =
       token-same (r₁ c) (r₂ c) rest (getD (words 5 got) 0 0) (getD (words 5 got) 1 0) (drop 2 (words 5 got))
@@ -152,7 +149,7 @@ module _ (c : Card) (fits : c .«module_state» ≤ 15) (line got : List Bool) (
       ∙ take-at (bits 16 (r₁ c)) _ 16 (length-bits 16 (r₁ c)) in
       (ap number front ∙ number-bits 16 (r₁ c) ∙ mod-eq-of-lt (response-below c fits .0), far)
 
-  pub own-first : Heard c line got → (getD (words 5 got) 0 0 ≡ r₁ c) × (line ≡ [] → ⊥)
+  pub own-first : Got c line got → (getD (words 5 got) 0 0 ≡ r₁ c) × (line ≡ [] → ⊥)
   unfolding full mute
   own-first (Filled k fill none-seen e) =
       let (same, far) = filled-first k fill e in

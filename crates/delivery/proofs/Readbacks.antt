@@ -10,13 +10,13 @@ use mathlib.Core.List.{List, [], _∷_, append-nil}
 use borrow.Author.Tests.{eq-eqb}
 use lib.Dec.{lit<}
 use lib.ListN.{length}
-use Rattle.crc.specs.Bits.{stream}
+use Rattle.bits.specs.Bits.{stream}
 use Rattle.crc.specs.Crc.{crc4, crc16, crc16After, agrees}
-use Rattle.crc.proofs.Digits.{bits-mod}
+use Rattle.bits.proofs.Digits.{bits-mod}
 use Rattle.crc.proofs.Words.{crc16-lt}
-use Rattle.link.specs.Lines.{words}
+use Rattle.bits.specs.Lines.{words, AreWords}
 use Rattle.link.specs.Damage.{Damage, undamaged}
-use Rattle.link.proofs.Laws.{Words, length-words, words-stream}
+use Rattle.bits.proofs.Lines.{length-words, words-stream}
 use Rattle.token.specs.Command.{commandFirst, commandSecond, commandToken, commandMarks, goodCommand}
 use Rattle.token.specs.Marks.{at, checkRight, goodMarks}
 use Rattle.token.specs.Response.{clean, goodResponse, anySet}
@@ -26,29 +26,29 @@ use Rattle.token.specs.declared.command.CommandToken.{CommandToken}
 use Rattle.token.specs.declared.response.Response.{Response}
 use Rattle.token.proofs.CommandTrip.{CommandFits, first-below, second-below}
 use Rattle.token.proofs.ResponseTrip.{response-good}
-use Rattle.card.specs.Acting.{noted}
-use Rattle.card.specs.Sending.{responseOf}
+use Rattle.card.specs.Release.{noted}
+use Rattle.card.specs.Exchange.{responseOf}
 use Rattle.card.specs.declared.Card.{Card}
-use Rattle.controller.specs.Answers.{answerRead}
-use Rattle.controller.specs.Messages.{payload}
+use Rattle.controller.specs.Reader.{answerRead}
+use Rattle.controller.specs.Builder.{payload}
 use Rattle.controller.specs.Sure.{readbackCommand, readGood, passes, confirms}
 use Rattle.delivery.specs.Play.{Crossed}
-use Rattle.delivery.proofs.Held.{Idle}
-use Rattle.delivery.proofs.Closed.{acted-last}
+use Rattle.card.proofs.Holding.{Idle}
+use Rattle.card.proofs.Closed.{acted-last}
 use Rattle.delivery.proofs.Ended.{Ended, Ignored, Refused, Taken, sent, seen, sent-ended}
 use Rattle.delivery.proofs.Effects.{readbackLine, readback-sendable}
 use Rattle.delivery.proofs.Heard.{r₁, r₂, full, readback-heard, undamaged-got}
 use Rattle.delivery.proofs.Read.{read-good, read-fields, passes-good, Confirmed, confirmed, length-got, own-first, response-status, response-below}
 use Rattle.delivery.proofs.Told.{Told, not-readback}
 
-abbrev pub readBack : Damage → Card → List ℕ → Crossed
+abbrev pub readBack : Damage → Card → List ℕ → Crossed Card
 readBack = sent readbackCommand []
 
 -- ---- with any damage
 
 module _ (c : Card) (memory : List ℕ) (idle : Idle c memory) (d : Damage) where
   abbrev c₁ : Card
-  c₁ = readBack d c memory .card
+  c₁ = readBack d c memory .side
 
   abbrev got : List Bool
   got = readBack d c memory .got
@@ -115,8 +115,8 @@ shown c =
     ∷ []
 
 module _ (c : Card) (memory : List ℕ) (idle : Idle c memory) where
-  shown-below : Words (shown c)
-  unfolding shown Words
+  shown-below : AreWords (shown c)
+  unfolding shown AreWords
   shown-below zero = response-below c (idle .ranged .module-state) .0
   shown-below (suc zero) = response-below c (idle .ranged .module-state) .1
   shown-below (suc (suc zero)) = mod-lt (c .port .last .first) (lit< tt)

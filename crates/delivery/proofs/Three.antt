@@ -1,32 +1,32 @@
 -- The sure write's three messages, one after the other: what becomes of card and memory.
 -- Assumes nothing.
 use Prim.Native.Nat.{ℕ}
-use native.Mathlib.Omega.{arith}
 use mathlib.Core.Path.{_≡_, sym, ap, ap₂, _∙_}
 use mathlib.Core.Logic.{_⊎_, inl, inr, ⊎-elim}
-use mathlib.Core.List.{List}
-use lib.ListN.{length, length-append, length-take, length-drop}
+use mathlib.Core.List.{List, _++_}
+use lib.ListN.{length}
 use Rattle.link.specs.Damage.{Damage, undamaged}
-use Rattle.link.proofs.Laws.{Words}
 use Rattle.token.specs.Command.{commandToken}
 use Rattle.token.specs.Response.{clean}
 use Rattle.token.specs.declared.command.Command.{Command}
 use Rattle.judge.specs.Judge.{wordPlace}
 use Rattle.judge.specs.declared.Bases.{Bases}
-use Rattle.card.specs.Acting.{written}
+use Rattle.bits.specs.Buffers.{written}
+use Rattle.bits.specs.Bits.{stream}
 use Rattle.card.specs.declared.Card.{Card}
 use Rattle.card.proofs.Sound.{run-sound}
-use Rattle.controller.specs.Messages.{payload}
-use Rattle.delivery.specs.Play.{Crossed}
-use Rattle.delivery.specs.Delivery.{target, Inside, Written, Kept, Premises}
-use Rattle.delivery.proofs.Held.{Idle}
+use Rattle.controller.specs.Builder.{payload, message}
+use Rattle.delivery.specs.Play.{Crossed, ModuleCall, Buffers}
+use Rattle.delivery.specs.Delivery.{inWords, target, Inside, BlockWritten, Kept, Premises}
+use Rattle.card.proofs.Holding.{Idle}
 use Rattle.delivery.proofs.Judged.{writeOf, write-passes, write-inside}
 use Rattle.delivery.proofs.Accept.{Sendable}
-use Rattle.delivery.proofs.Ended.{Passes, sent}
-use Rattle.delivery.proofs.Effects.{Effect, kept-idle, sent-kept, sent-memory, undamaged-works, readback-kept, readback-memory, write-sendable, write-effect}
+use Rattle.delivery.proofs.Ended.{Passes, sent, crossed-idle}
+use Rattle.delivery.proofs.Effects.{Effect, kept-trans, readbackLine, sent-kept, sent-memory, undamaged-works, readback-kept, readback-memory, write-sendable, write-effect}
 use Rattle.delivery.proofs.Readbacks.{readBack}
+use Rattle.delivery.proofs.Settings.{afterCalls, calls-aside, calls-idle, calls-append, calls-kept}
 
-module _ {c : Card} {memory : List ℕ} {sub : ℕ} {block : List ℕ} (p : Premises c memory sub block) where
+module _ {c : Card} {memory : List ℕ} {sub : ℕ} {block : List ℕ} {b : Buffers} (p : Premises inWords c memory sub block b) where
   pub idle : Idle c memory
   idle = let s = run-sound (p .run) in record { ranged = s .ranged; closed = s .closed (p .idle); lent = p .lent }
 
@@ -37,72 +37,88 @@ module _ {c : Card} {memory : List ℕ} {sub : ℕ} {block : List ℕ} (p : Prem
   abbrev pub new : Card → List ℕ → List ℕ
   new x m = written m (target x sub) block
 
-  below : Words block
-  unfolding Words
-  below = p .words
-
   pub sendable : Sendable w (payload w block)
-  sendable = write-sendable sub block (p .short) (p .sub-address) below
+  sendable = write-sendable sub block (p .short) (p .sub-address) (p .words)
 
   pub effect : (x : Card) (m : List ℕ) → Effect w (payload w block) (new x m) x m
-  effect = write-effect sub block (p .short) (p .sub-address) below
+  effect = write-effect sub block (p .short) (p .sub-address) (p .words)
 
   module _ (d₁ : Damage) where
-    abbrev pub first : Crossed
+    abbrev pub first : Crossed Card
     first = readBack d₁ c memory
 
     pub first-memory : first .memory ≡ memory
     first-memory = readback-memory c memory idle d₁
 
-    pub first-kept : Kept c (first .card)
+    pub first-kept : Kept c (first .side)
     first-kept = readback-kept c memory idle d₁
 
-    pub first-idle : Idle (first .card) (first .memory)
-    first-idle = kept-idle c (first .card) memory (first .memory) idle first-kept (ap length first-memory)
+    pub first-idle : Idle (first .side) (first .memory)
+    unfolding sent
+    first-idle = crossed-idle c memory idle d₁ readbackLine
 
-    module _ (d₂ : Damage) where
-      abbrev pub second : Crossed
-      second = sent w block d₂ (first .card) (first .memory)
+    module _ (before : List ModuleCall) (d₂ : Damage) where
+      -- the card when the WRITE is asked for
+      abbrev pub c₁ : Card
+      c₁ = afterCalls before (first .side)
+
+      pub c₁-idle : Idle c₁ (first .memory)
+      c₁-idle = calls-idle (first .side) (first .memory) first-idle before
+
+      abbrev pub second : Crossed Card
+      second = sent w block d₂ c₁ (first .memory)
+
+      same-size : c₁ .size ≡ c .size
+      same-size = calls-aside before (first .side) .size ∙ first-kept .size
+
+      same-bases : c₁ .bases ≡ c .bases
+      same-bases = calls-aside before (first .side) .bases ∙ first-kept .bases
 
       -- a WRITE that was taken, told of the card and memory at the start
-      pub taken : Passes w (first .card) → second .memory ≡ new (first .card) (first .memory) → Written c memory sub block (second .memory)
+      pub taken : Passes w c₁ → second .memory ≡ new c₁ (first .memory) → BlockWritten c memory sub block (second .memory)
       taken j e = (
-        rw (first-kept .size, first-kept .bases) at (write-inside (length block) sub (p .short) (p .sub-address) (first .card .size) (first .card .bases) j),
-        e ∙ ap₂ (λ (m : List ℕ) (b : Bases). written m (wordPlace (b .«write_base») sub) block) first-memory (first-kept .bases),
+        rw (same-size, same-bases) at (write-inside (length block) sub (p .short) (p .sub-address) (c₁ .size) (c₁ .bases) j),
+        e ∙ ap₂ (λ (m : List ℕ) (b : Bases). written m (wordPlace (b .«write_base») sub) block) first-memory same-bases,
       )
 
-      pub second-memory : (second .memory ≡ memory) ⊎ Written c memory sub block (second .memory)
+      pub second-memory : (second .memory ≡ memory) ⊎ BlockWritten c memory sub block (second .memory)
       second-memory =
           ⊎-elim (λ e. inl (e ∙ first-memory)) (λ (j, e). inr (taken j e))
-          (sent-memory w block _ sendable (first .card) (first .memory) first-idle (effect _ _) d₂)
+          (sent-memory w block _ sendable c₁ (first .memory) c₁-idle (effect _ _) d₂)
 
-      second-long : length (second .memory) ≡ length (first .memory)
-      second-long = go second-memory ∙ ap length (sym first-memory)
-        where
-          go : (second .memory ≡ memory) ⊎ Written c memory sub block (second .memory) → length (second .memory) ≡ length memory
-          go (inl e) = ap length e
-          go (inr (h, e)) = ap length e ∙ unfold written in simp (length-append, length-take, length-drop) (omega (arith, idle .lent))
+      pub second-kept : Kept c₁ (second .side)
+      second-kept = sent-kept w block _ sendable c₁ (first .memory) c₁-idle (effect _ _) d₂
 
-      pub second-kept : Kept (first .card) (second .card)
-      second-kept = sent-kept w block _ sendable (first .card) (first .memory) first-idle (effect _ _) d₂
+      second-idle : Idle (second .side) (second .memory)
+      unfolding sent
+      second-idle = crossed-idle c₁ (first .memory) c₁-idle d₂ (stream 16 (message w block))
 
-      pub second-idle : Idle (second .card) (second .memory)
-      second-idle = kept-idle (first .card) (second .card) (first .memory) (second .memory) first-idle second-kept second-long
+      module _ (behind : List ModuleCall) (d₃ : Damage) where
+        -- the card when the last READBACK is asked for
+        abbrev pub c₂ : Card
+        c₂ = afterCalls behind (second .side)
 
-      module _ (d₃ : Damage) where
-        abbrev pub third : Crossed
-        third = readBack d₃ (second .card) (second .memory)
+        pub c₂-idle : Idle c₂ (second .memory)
+        c₂-idle = calls-idle (second .side) (second .memory) second-idle behind
+
+        abbrev pub third : Crossed Card
+        third = readBack d₃ c₂ (second .memory)
 
         pub third-memory : third .memory ≡ second .memory
-        third-memory = readback-memory (second .card) (second .memory) second-idle d₃
+        third-memory = readback-memory c₂ (second .memory) c₂-idle d₃
 
-        pub third-kept : Kept (second .card) (third .card)
-        third-kept = readback-kept (second .card) (second .memory) second-idle d₃
+        -- but for status bits and last token it is the card that the device's calls alone would have left
+        pub third-kept : Kept (afterCalls (before ++ behind) c) (third .side)
+        third-kept =
+            let before-kept = calls-kept c (first .side) memory (first .memory) idle first-idle first-kept before in
+            let so-far = kept-trans (afterCalls before c) c₁ (second .side) before-kept second-kept in
+            let behind-kept = calls-kept (afterCalls before c) (second .side) memory (second .memory) (calls-idle c memory idle before) second-idle so-far behind in
+            rw (calls-append before behind c)
+            (kept-trans (afterCalls behind (afterCalls before c)) c₂ (third .side) behind-kept (readback-kept c₂ (second .memory) c₂-idle d₃))
 
   -- without damage the WRITE of a block that is inside is accepted
-  pub write-accepted : Inside c sub block
-      → (second undamaged undamaged .card .port .status ≡ clean) × (second undamaged undamaged .card .port .last ≡ commandToken w)
-  write-accepted inside =
-      let k = first-kept undamaged in
-      undamaged-works w block sendable (first undamaged .card) (first undamaged .memory) (first-idle undamaged)
-      (rw (k .size, k .bases) (write-passes (length block) sub (p .short) (p .sub-address) (c .size) (c .bases) inside))
+  pub write-accepted : Inside c sub block → (before : List ModuleCall)
+      → (second undamaged before undamaged .side .port .status ≡ clean) × (second undamaged before undamaged .side .port .last ≡ commandToken w)
+  write-accepted inside before =
+      undamaged-works w block sendable (c₁ undamaged before undamaged) (first undamaged .memory) (c₁-idle undamaged before undamaged)
+      (rw (same-size undamaged before undamaged, same-bases undamaged before undamaged) (write-passes (length block) sub (p .short) (p .sub-address) (c .size) (c .bases) inside))

@@ -8,14 +8,15 @@ use mathlib.Core.List.{List, [], _∷_}
 use lib.Dec.{lit<}
 use lib.ListN.{length, getD, take, drop, replicate, List·getD-append}
 use lib.Seq.{getD-drop, drop-drop}
-use Rattle.crc.specs.Bits.{bits, number, stream}
+use Rattle.bits.specs.Bits.{bits, number, stream}
 use Rattle.crc.specs.Crc.{shift, step, feed, crc, taps16, crc16, crc16After}
 use Rattle.crc.proofs.Register.{bits-zero}
 use Rattle.crc.proofs.Words.{crc16-lt}
-use Rattle.link.specs.Lines.{words}
-use Rattle.link.specs.Damage.{AtMostOne, flipped, filled}
-use Rattle.link.proofs.Laws.{Words, stream-words, words-below, filled-before, filled-kept, words-more}
-use Rattle.link.proofs.Kept.{payload-kept, behind-token}
+use Rattle.bits.specs.Lines.{words, AreWords}
+use Rattle.link.specs.Damage.{Flips, flipped, filled}
+use Rattle.bits.proofs.Lines.{stream-words, words-below, words-more}
+use Rattle.link.proofs.Laws.{filled-before, filled-kept}
+use Rattle.link.proofs.Spoilt.{payload-kept, behind-token}
 use Rattle.rules.specs.Rules.{write}
 use Rattle.token.specs.Command.{command, commandFirst, commandToken}
 use Rattle.token.specs.declared.command.Command.{Command}
@@ -24,7 +25,7 @@ use Rattle.token.proofs.CommandTrip.{first-below, second-below}
 use Rattle.card.specs.declared.Card.{Card}
 use Rattle.controller.specs.Sure.{readbackCommand}
 use Rattle.delivery.proofs.Judged.{readback-fits}
-use Rattle.delivery.proofs.Heard.{rb₁, rb₂, r₁, r₂, full, mute, full-long, Heard, Filled, Turned, Muted}
+use Rattle.delivery.proofs.Heard.{rb₁, rb₂, r₁, r₂, full, mute, full-long, Got, Filled, Turned, Muted}
 use Rattle.delivery.proofs.Read.{word-bit, Confirmed}
 
 -- a token's first word is told from READBACK's, cut or not: some bit of it is not READBACK's, and its next bit is the other way
@@ -44,15 +45,15 @@ write-told n sub h =
 
 -- ---- the two answers' payloads
 
-readback-payload : Words (rb₁ ∷ rb₂ ∷ crc16 (rb₁ ∷ rb₂ ∷ []) ∷ [])
-unfolding Words
+readback-payload : AreWords (rb₁ ∷ rb₂ ∷ crc16 (rb₁ ∷ rb₂ ∷ []) ∷ [])
+unfolding AreWords
 readback-payload zero = first-below readbackCommand readback-fits
 readback-payload (suc zero) = second-below readbackCommand readback-fits
 readback-payload (suc (suc zero)) = crc16-lt 0 (rb₁ ∷ rb₂ ∷ [])
 readback-payload (suc (suc (suc i))) = lit< tt
 
-zeros-payload : Words (0 ∷ 0 ∷ 0 ∷ [])
-unfolding Words
+zeros-payload : AreWords (0 ∷ 0 ∷ 0 ∷ [])
+unfolding AreWords
 zeros-payload zero = lit< tt
 zeros-payload (suc zero) = lit< tt
 zeros-payload (suc (suc zero)) = lit< tt
@@ -78,7 +79,7 @@ readback-bit c i h l =
 
 module _ (c : Card) (line got : List Bool) (long : length got ≡ 80) (t : Command) (told : Told t) (is : Confirmed t (words 5 got)) where
   -- a payload with a bit turned over: the check tells
-  turned-payload : (a b d : ℕ) (j : AtMostOne) → Words (a ∷ b ∷ d ∷ []) → got ≡ flipped j (stream 16 (r₁ c ∷ r₂ c ∷ a ∷ b ∷ d ∷ [])) → crc16 (a ∷ b ∷ []) ≡ d
+  turned-payload : (a b d : ℕ) (j : Flips) → AreWords (a ∷ b ∷ d ∷ []) → got ≡ flipped j (stream 16 (r₁ c ∷ r₂ c ∷ a ∷ b ∷ d ∷ [])) → crc16 (a ∷ b ∷ []) ≡ d
       → commandFirst t ≡ a
   unfolding words
   turned-payload a b d j h e check =
@@ -95,7 +96,7 @@ module _ (c : Card) (line got : List Bool) (long : length got ≡ 80) (t : Comma
       word-bit got 32 i (omega arith) h
       ∙ ap (λ (w : ℕ). getD (bits 16 w) i false) (ap (λ (x : List Bool). number (take 16 x)) (sym (drop-drop 16 16 got)) ∙ is .first)
 
-  pub not-readback : Heard c line got → c .port .last ≡ commandToken readbackCommand → ⊥
+  pub not-readback : Got c line got → c .port .last ≡ commandToken readbackCommand → ⊥
   unfolding full mute
   not-readback (Filled k fill p e) l =
       let i : ℕ = told .place in

@@ -1,32 +1,57 @@
 -- Demand 3: what the sure write's verdict means, however its three messages are damaged.
--- Assumes nothing.
 --
 -- It is stated over the definitions that the contracts of card and controller cite, so over what their functions compute:
---   the card        `selected`, `exchanged`, `released`, `memoryAfter` (Play.antt puts them together to whole messages),
+--   the card        `powered`, `selected`, `moduleSet`, `told`, `exchanged`, `released`, `memoryAfter` (crate card, Whole.antt, puts them together to
+--                   whole messages),
+--   at the pins     `poweredPins`, `selectedPins`, `modulePins`, `clocked`, `releasedPins`, `memoryAfterPins` (crate pins, AtPins.antt),
 --   the controller  `started`, `asked` with `askedBuffer`, `given`, `verdictOf`,
 --   the damage      `Unseen`, `Cut`, `Flipped` (crate link, Damage.antt).
--- `hears n` is how the card hears message n: word by word (`heard` of Play.antt), or bit by bit behind its shifter (`atPins` of the crate pins).
--- The proofs are `delivery` and `undamaged-delivery` of proofs/Theorem.antt, and `delivery-at-pins` and `undamaged-at-pins` of the crate pins.
-use Prim.Native.Nat.{ℕ, _+_, _≤_, _<_}
-use mathlib.Core.Bool.{false}
+-- The proofs are `delivery`, `undamaged-delivery`, `delivery-at-pins` and `undamaged-at-pins` of proofs/Theorem.antt.
+use Prim.Native.Nat.{ℕ, _+_, _≤_}
+use mathlib.Core.Bool.{true, false}
 use mathlib.Core.List.{List, []}
 use mathlib.Core.Logic.{_⊎_}
 use mathlib.Core.Path.{_≡_}
-use lib.ListN.{length, getD}
+use lib.ListN.{length}
+use Rattle.bits.specs.Buffers.{written}
+use Rattle.bits.specs.Lines.{AreWords}
+use Rattle.rules.specs.Rules.{messageWords, readback}
 use Rattle.judge.specs.Judge.{wordPlace}
-use Rattle.link.specs.Damage.{Damage, undamaged}
-use Rattle.card.specs.Acting.{written}
+use Rattle.link.specs.Damage.{undamaged}
+use Rattle.card.specs.Card.{moduleSet}
 use Rattle.card.specs.Run.{Run}
 use Rattle.card.specs.State.{emptied}
+use Rattle.card.specs.Whole.{listed, Hears, heard}
 use Rattle.card.specs.declared.Card.{Card}
+use Rattle.pins.specs.AtPins.{heardAtPins}
+use Rattle.pins.specs.Pins.{modulePins}
+use Rattle.pins.specs.Run.{RunPins}
+use Rattle.pins.specs.declared.Pins.{Pins}
 use Rattle.controller.specs.Sure.{started, verdictOf}
-use Rattle.controller.specs.declared.Verdict.{Verdict}
-use Rattle.controller.specs.declared.Verdict.the-variants.{Done, Unsure}
-use Rattle.delivery.specs.Play.{Hears, listed, Going, play}
+use Rattle.delivery.specs.Play.{Sets, settings, Going, Buffers, Damages, Calls, play}
+
+-- ---- the card's side of the line
+
+-- its states, how a state hears a message and takes a module-state call, the card that is in a state, and the states that were run
+-- from power-up
+pub record Side : Type 1 where
+  pub State : Type 0
+  pub hears : Hears State
+  pub sets : Sets State
+  pub card : State → Card
+  pub Runs : State → Type 0
+
+-- the card alone, word by word
+abbrev pub inWords : Side
+inWords = record { State = Card; hears = heard; sets = λ c stf state. moduleSet c stf state .card; card = λ c. c; Runs = Run }
+
+-- the card behind its shifter, bit by bit
+abbrev pub atPins : Side
+atPins = record { State = Pins; hears = heardAtPins; sets = λ p stf state. modulePins p stf state .pins; card = λ p. p .card; Runs = RunPins }
 
 -- ---- the block and the memory
 
--- the first word of the block: write base + sub-address
+-- the place of the block's first word: write base + sub-address
 abbrev pub target : Card → ℕ → ℕ
 target c sub = wordPlace (c .bases .«write_base») sub
 
@@ -35,20 +60,34 @@ abbrev pub Inside : Card → ℕ → List ℕ → Type 0
 Inside c sub block = target c sub + length block ≤ c .size
 
 -- the block is inside, and the memory is the old one with the block written into it
-abbrev pub Written : Card → List ℕ → ℕ → List ℕ → List ℕ → Type 0
-Written c memory sub block now = Inside c sub block × (now ≡ written memory (target c sub) block)
+abbrev pub BlockWritten : Card → List ℕ → ℕ → List ℕ → List ℕ → Type 0
+BlockWritten c memory sub block later = Inside c sub block × (later ≡ written memory (target c sub) block)
 
 -- ---- the sure write
 
--- the sure write of a block to a sub-address, from a card and its memory, with a damage to each of its three messages
-abbrev pub sureWrite : (ℕ → Hears) → Card → List ℕ → ℕ → List ℕ → Damage → Damage → Damage → Going
-sureWrite hears c memory sub block d₁ d₂ d₃ =
+-- there is room for the three messages
+pub record Room (block : List ℕ) (b : Buffers) : Type 0 where
+  pub first : messageWords (readback .«most_length») ≤ length (b .first)
+  pub second : messageWords (length block) ≤ length (b .second)
+  pub third : messageWords (readback .«most_length») ≤ length (b .third)
+
+-- none of the three messages is damaged
+abbrev pub noDamage : Damages
+noDamage = record { first = undamaged; second = undamaged; third = undamaged }
+
+-- the sure write of a block to a sub-address, from a state of a card's side and the card's memory
+abbrev pub sureWrite : (side : Side) → side .State → List ℕ → ℕ → List ℕ → Buffers → Damages → Calls → Going (side .State)
+sureWrite side s memory sub block b d calls =
     let start = started (length block) sub in
-    play hears block d₁ d₂ d₃ (record { state = start .state; card = c; memory = memory; refused = listed (start .refusal) })
+    play (side .hears) (side .sets) block b d calls
+    (record { state = start .state; side = s; memory = memory; calls = []; refused = listed (start .refusal) })
 
 -- the verdict that it ends with
-abbrev pub verdict : Going → Verdict
-verdict end = verdictOf (end .state)
+abbrev pub SaysDone : {S : Type 0} → Going S → Type 0
+SaysDone end = verdictOf (end .state) .done ≡ true
+
+abbrev pub SaysUnsure : {S : Type 0} → Going S → Type 0
+SaysUnsure end = verdictOf (end .state) .unsure ≡ true
 
 -- ---- what it means
 
@@ -61,33 +100,36 @@ pub record Kept (c c′ : Card) : Type 0 where
   pub module-state : c′ .«module_state» ≡ c .«module_state»
   pub closed : c′ .port .message ≡ emptied false
 
-pub record Meaning (c : Card) (memory : List ℕ) (sub : ℕ) (block : List ℕ) (end : Going) : Type 0 where
+pub record Meaning (side : Side) (s : side .State) (memory : List ℕ) (sub : ℕ) (block : List ℕ) (end : Going (side .State)) : Type 0 where
   -- Done: the block was inside, and is written
-  pub done : verdict end ≡ Done → Written c memory sub block (end .memory)
+  pub done : SaysDone end → BlockWritten (side .card s) memory sub block (end .memory)
   -- Unsure: the memory is as it was, or the block was inside, and is written
-  pub unsure : verdict end ≡ Unsure → (end .memory ≡ memory) ⊎ Written c memory sub block (end .memory)
+  pub unsure : SaysUnsure end → (end .memory ≡ memory) ⊎ BlockWritten (side .card s) memory sub block (end .memory)
   -- there is a verdict, and neither card nor controller refused a call
-  pub ends : (verdict end ≡ Done) ⊎ (verdict end ≡ Unsure)
+  pub ends : SaysDone end ⊎ SaysUnsure end
   pub unrefused : end .refused ≡ []
-  -- size, bases, time, STF and module state stay; and the card is one that was run from power-up, so that the next sure write can follow
-  pub kept : Kept c (end .card)
-  pub runs : Run (end .card)
+  -- size, bases and time stay, and STF and module state but for the device's own calls; and the card is one that was run from power-up, so
+  -- that the next sure write can follow
+  pub kept : Kept (side .card (settings (side .sets) (end .calls) s)) (side .card (end .side))
+  pub runs : side .Runs (end .side)
 
--- for every card that was run from power-up and has no message open, its memory, and a block of up to 63 words for a sub-address up to 255
-pub record Premises (c : Card) (memory : List ℕ) (sub : ℕ) (block : List ℕ) : Type 0 where
-  pub run : Run c
-  pub idle : c .port .message .opened ≡ false
-  pub lent : length memory ≡ c .size
+-- every card that was run from power-up and has no message open, its memory, a block of up to 63 words for a sub-address up to 255,
+-- and any buffers with room
+pub record Premises (side : Side) (s : side .State) (memory : List ℕ) (sub : ℕ) (block : List ℕ) (b : Buffers) : Type 0 where
+  pub run : side .Runs s
+  pub idle : side .card s .port .message .opened ≡ false
+  pub lent : length memory ≡ side .card s .size
   pub sub-address : sub ≤ 255
   pub short : length block ≤ 63
-  pub words : (i : ℕ) → getD block i 0 < 65536
+  pub words : AreWords block
+  pub room : Room block b
 
--- whatever befalls the three messages, the verdict has its meaning
-abbrev pub Delivery : (ℕ → Hears) → Type 0
-Delivery hears = (c : Card) (memory : List ℕ) (sub : ℕ) (block : List ℕ) → Premises c memory sub block
-    → (d₁ d₂ d₃ : Damage) → Meaning c memory sub block (sureWrite hears c memory sub block d₁ d₂ d₃)
+-- whatever befalls the three messages, and whatever the device sets between them, the verdict has its meaning
+abbrev pub Delivery : Side → Type 0
+Delivery side = (s : side .State) (memory : List ℕ) (sub : ℕ) (block : List ℕ) (b : Buffers) → Premises side s memory sub block b
+    → (d : Damages) (calls : Calls) → Meaning side s memory sub block (sureWrite side s memory sub block b d calls)
 
 -- and with no damage a block that is inside is Done
-abbrev pub Undamaged : (ℕ → Hears) → Type 0
-Undamaged hears = (c : Card) (memory : List ℕ) (sub : ℕ) (block : List ℕ) → Premises c memory sub block
-    → Inside c sub block → verdict (sureWrite hears c memory sub block undamaged undamaged undamaged) ≡ Done
+abbrev pub Undamaged : Side → Type 0
+Undamaged side = (s : side .State) (memory : List ℕ) (sub : ℕ) (block : List ℕ) (b : Buffers) → Premises side s memory sub block b
+    → Inside (side .card s) sub block → (calls : Calls) → SaysDone (sureWrite side s memory sub block b noDamage calls)

@@ -1,19 +1,17 @@
 // Words sent and taken: the next word, and a word taken while another is sent.
 ghost use mathlib.Core.Path.{_≡_};
-ghost use Prim.Native.Nat.{_+_, _≤_};
-ghost use lib.ListN.{length};
-ghost use Rattle.rules.specs.Rules.{read};
-ghost use Rattle.judge.specs.Judge.{wordPlace};
+ghost use Prim.Native.Nat.{_+_, _<_, _≤_};
+ghost use lib.ListN.{length, set};
 ghost use Rattle.token.specs.Response.{responseToken};
-ghost use Rattle.card.specs.Card.{told, exchanged};
-ghost use Rattle.card.specs.Sending.{responseOf, readWord, readbackWord, passedWord, payloadWord, nextWord, sendsRead, checkAfter, taken};
+ghost use Rattle.card.specs.State.{withMessage};
+ghost use Rattle.card.specs.Exchange.{told, exchanged, responseOf, readWord, readbackWord, payloadWord, nextWord, checkAfter, taken};
+ghost use Rattle.exchange.specs.Payload.{payloadAsked, payloadOf};
 use card::Card;
 use card::Exchanged;
-use card::Message;
 use card::Told;
 use card::token_of;
-use card::with_message;
 use card::word_refusal;
+use rules::Name;
 use rules::refusal;
 use token::command::Command;
 use token::command::CommandToken;
@@ -26,8 +24,7 @@ fn response_token(card: Card) -> ResponseToken
     requires { ⌜ card .«module_state» ≤ 15 ⌝ }
     ensures { λ r. ⌜ r ≡ responseToken (responseOf card) ⌝ }
 {
-    let port = card.port;
-    let status = port.status;
+    let status = card.port.status;
     let fields = Response {
         stf: card.stf,
         status,
@@ -72,42 +69,70 @@ fn readback_word(last: CommandToken, k: usize) -> u16
     0
 }
 
-// Word k behind a token that passed steps 1 to 3, so that a READ lies inside the memory.
-fn passed_word(card: Card, memory: &[u16], fields: Command, k: usize) -> u16
-    requires { ⌜ (fields .code ≡ read .code → wordPlace (card .bases .«read_base») (fields .«sub_address») + fields .length ≤ length (now memory)) ⌝ }
-    ensures { λ r. ⌜ r ≡ passedWord card (now (memory .entry)) fields k ⌝ }
+// What the card sends behind the response token: the words of a READ with these fields, those of READBACK, or 0x0000.
+enum Payload {
+    Read(Command),
+    Readback,
+    Zeros,
+}
+
+// What a command sends.
+fn payload_asked(fields: Command) -> Payload
+    ensures { λ r. ⌜ r ≡ payloadAsked fields ⌝ }
 {
-    if fields.code == rules::READ.code {
-        let from = judge::word_place(card.bases.read_base, fields.sub_address);
-        return read_word(
-            memory,
-            from,
-            fields.length as usize,
-            card.port.message.check,
-            k,
-        );
+    if rules::is_command(fields.code, Name::Read) {
+        return Payload::Read(fields);
     }
-    if fields.code == rules::READBACK.code {
-        return readback_word(card.port.last, k);
+    if rules::is_command(fields.code, Name::Readback) {
+        return Payload::Readback;
     }
-    0
+    Payload::Zeros
+}
+
+// What the open message's token sends, once two words came and where it passes steps 1 to 3. A word judges it here alone,
+// and not at all where its command sends nothing.
+fn payload_of(card: Card) -> Payload
+    ensures { λ r. ⌜ r ≡ payloadOf card ⌝ }
+{
+    if card.port.message.count < 2 {
+        return Payload::Zeros;
+    }
+    let token = token_of(card);
+    let asked = payload_asked(token.fields());
+    if let Payload::Zeros = asked {
+        return Payload::Zeros;
+    }
+    if any_set(judge::token_status(card.size, card.bases, token)) {
+        return Payload::Zeros;
+    }
+    asked
 }
 
 // Word k behind the token.
-fn payload_word(card: Card, memory: &[u16], k: usize) -> u16
-    requires { ⌜ length (now memory) ≡ card .size ⌝ }
+fn payload_word(card: Card, payload: Payload, memory: &[u16], k: usize) -> u16
+    requires { ⌜ (payload ≡ payloadOf card) × (2 ≤ card .port .message .count) × (length (now memory) ≡ card .size) ⌝ }
     ensures { λ r. ⌜ r ≡ payloadWord card (now (memory .entry)) k ⌝ }
 {
-    let token = token_of(card);
-    let status = judge::token_status(card.size, card.bases, token);
-    if any_set(status) {
-        return 0;
+    match payload {
+        Payload::Read(fields) => {
+            let from = judge::word_place(card.bases.read_base, fields.sub_address);
+            read_word(
+                memory,
+                from,
+                fields.length as usize,
+                card.port.message.check,
+                k,
+            )
+        }
+        Payload::Readback => readback_word(card.port.last, k),
+        Payload::Zeros => 0,
     }
-    passed_word(card, memory, token.fields(), k)
 }
 
-fn word_sent(card: Card, memory: &[u16]) -> u16
-    requires { ⌜ (length (now memory) ≡ card .size) × (card .«module_state» ≤ 15) ⌝ }
+// ---- what is sent
+
+fn word_sent(card: Card, payload: Payload, memory: &[u16]) -> u16
+    requires { ⌜ (payload ≡ payloadOf card) × (length (now memory) ≡ card .size) × (card .«module_state» ≤ 15) ⌝ }
     ensures { λ r. ⌜ r ≡ nextWord card (now (memory .entry)) ⌝ }
 {
     let count = card.port.message.count;
@@ -117,46 +142,45 @@ fn word_sent(card: Card, memory: &[u16]) -> u16
     if count == 1 {
         return response_token(card).second;
     }
-    payload_word(card, memory, count - 2)
+    payload_word(card, payload, memory, count - 2)
 }
 
-// Whether the next word is one of READ's payload, which the running check goes over.
-fn sends_read(card: Card) -> bool
-    ensures { λ r. ⌜ r ≡ sendsRead card ⌝ }
-{
-    let count = card.port.message.count;
-    if count < 2 {
-        return false;
-    }
-    let token = token_of(card);
-    let status = judge::token_status(card.size, card.bases, token);
-    if any_set(status) {
-        return false;
-    }
-    let fields = token.fields();
-    (fields.code == rules::READ.code) & (count - 2 < fields.length as usize)
-}
+// ---- what taking a word does
 
-fn check_after(card: Card, sent: u16) -> u16
+// The running check goes over READ's payload words alone.
+fn check_after(card: Card, payload: Payload, sent: u16) -> u16
+    requires { ⌜ payload ≡ payloadOf card ⌝ }
     ensures { λ r. ⌜ r ≡ checkAfter card sent ⌝ }
 {
     let check = card.port.message.check;
-    if sends_read(card) {
+    let Payload::Read(fields) = payload else {
+        return check;
+    };
+    if card.port.message.count - 2 < fields.length as usize {
         return crc::check_word(check, sent);
     }
     check
 }
 
-// The message after a word taken while another was sent. Words beyond 67 are dropped.
-fn took(card: Card, word: u16, sent: u16) -> Message
-    ensures { λ r. ⌜ r ≡ taken card word sent ⌝ }
+// A word goes into the room, which is lent so that it is not copied.
+fn put(room: &mut [u16; 67], at: usize, word: u16)
+    requires { ⌜ at < 67 ⌝ }
+    ensures { λ _. ⌜ now (room .exit) ≡ set (now (room .entry)) at word ⌝ }
 {
-    let mut next = card.port.message;
-    let at = next.count;
-    next.check = check_after(card, sent);
+    room[at] = word;
+}
+
+// The card after a word taken while another was sent. Words beyond 67 are dropped.
+fn took(card: Card, payload: Payload, word: u16, sent: u16) -> Card
+    requires { ⌜ payload ≡ payloadOf card ⌝ }
+    ensures { λ r. ⌜ r ≡ withMessage card (taken card word sent) ⌝ }
+{
+    let mut next = card;
+    let at = next.port.message.count;
+    next.port.message.check = check_after(card, payload, sent);
     if at < 67 {
-        next.words[at] = word;
-        next.count = at + 1;
+        put(&mut next.port.message.words, at, word);
+        next.port.message.count = at + 1;
         return next;
     }
     next
@@ -175,7 +199,7 @@ pub fn next_word(card: Card, memory: &[u16]) -> Told
     }
     Told {
         refusal: refusal::NONE,
-        word: word_sent(card, memory),
+        word: word_sent(card, payload_of(card), memory),
     }
 }
 
@@ -191,10 +215,11 @@ pub fn word(card: Card, memory: &[u16], word: u16) -> Exchanged
             sent: 0,
         };
     }
-    let sent = word_sent(card, memory);
+    let payload = payload_of(card);
+    let sent = word_sent(card, payload, memory);
     Exchanged {
         refusal: refusal::NONE,
-        card: with_message(card, took(card, word, sent)),
+        card: took(card, payload, word, sent),
         sent,
     }
 }

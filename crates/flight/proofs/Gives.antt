@@ -7,7 +7,7 @@ use lib.Dec.{eqb}
 use Rattle.rules.specs.Refusals as refusal
 use Rattle.token.specs.Answers.{Built, Read}
 use Rattle.token.specs.Command.{command, commandToken, tokenOf, commandFits, commandBuilt, commandRead, goodCommand, commandFields}
-use Rattle.token.specs.Response.{clean, response, responseRead, goodResponse, responseFields}
+use Rattle.token.specs.Response.{noFields, responseRead, goodResponse, responseFields}
 use Rattle.token.specs.declared.command.Command.{Command}
 use Rattle.token.specs.declared.command.CommandToken.{CommandToken}
 use Rattle.token.specs.declared.response.Response.{Response}
@@ -51,4 +51,4 @@ pub response-gives : (t : ℕ) (r : Read Response) → r ≡ responseRead (word1
 unfolding responseRead responseAnswer
 response-gives t r e =
     ap (readNumber responseNumber) e
-    ∙ read-by responseNumber (goodResponse (word1 t) (word2 t)) (responseFields (word1 t) (word2 t)) (response false clean 0)
+    ∙ read-by responseNumber (goodResponse (word1 t) (word2 t)) (responseFields (word1 t) (word2 t)) noFields

@@ -1,28 +1,25 @@
 -- A built token is read back as its own fields, and each field stands at the bits that it is said to stand at.
 -- Assumes nothing.
-use Prim.Native.Nat.{ℕ, _≤_, _<_}
+use Prim.Native.Nat.{ℕ, _<_}
 use native.Mathlib.Omega.{arith}
-use mathlib.Core.Bool.{Bool, true, false}
+use mathlib.Core.Bool.{true}
 use mathlib.Core.Path.{_≡_}
-use borrow.Author.Tests.{le-leb}
-use lib.Dec.{lit≤}
-use Rattle.crc.specs.Bits.{digit}
-use Rattle.crc.proofs.Words.{crc4-lt}
-use Rattle.token.specs.Command.{command, commandFits, commandFirst, commandUpper, commandSecond, goodCommand, commandFields}
-use Rattle.token.specs.Marks.{at, withCheck}
+use Rattle.bits.specs.Bits.{digit}
+use Rattle.bits.proofs.Digits.{digit-lt}
+use Rattle.token.specs.Command.{command, commandFits, commandFirst, commandSecond, goodCommand, commandFields}
+use Rattle.token.specs.Marks.{at}
 use Rattle.token.specs.Response.{goodResponse, responseFields}
 use Rattle.token.specs.declared.response.Response.{Response}
-use Rattle.token.proofs.CommandTrip.{CommandFits, command-good, command-fields}
+use Rattle.token.proofs.CommandTrip.{second-below, command-good, command-fields}
 use Rattle.flight.specs.Flight.{tokenAnswer, word1, word2, commandNumber, commandAnswer, responseNumber, responseAnswer}
 
-module _ (code length sub : ℕ) (fits : CommandFits (command code length sub)) where
+module _ (code length sub : ℕ) (fits : commandFits (command code length sub) ≡ true) where
   pub token-words : (word1 (tokenAnswer code length sub) ≡ commandFirst (command code length sub))
       × (word2 (tokenAnswer code length sub) ≡ commandSecond (command code length sub))
-  unfolding tokenAnswer commandFits commandSecond withCheck commandUpper
+  unfolding tokenAnswer
   token-words =
-      let f = command code length sub in
-      let small = crc4-lt (commandFirst f) (commandUpper f) in
-      rw (le-leb _ _ (fits .code), le-leb _ _ (fits .length), le-leb _ _ (fits .sub-address)) (omega (arith, fits), omega (arith, fits))
+      let small = second-below (command code length sub) fits in
+      rw fits (omega arith, omega arith)
 
   pub token-read-back : commandAnswer (tokenAnswer code length sub) ≡ commandNumber (command code length sub)
   unfolding commandAnswer
@@ -40,10 +37,6 @@ command-bits t good =
     let sub : at 7 0 (commandAnswer t) ≡ f .«sub_address» = omega arith in
     rw (code, length, sub)
 
-digit-small : (b : Bool) → digit b ≤ 1
-digit-small true = lit≤ tt
-digit-small false = lit≤ tt
-
 -- the fields of a good response token: STF at bit 7, ME at 6, AR at 5, IC at 4, module state at 3-0
 pub record ResponseBits (f : Response) (answer : ℕ) : Type 0 where
   pub stf : at 7 7 answer ≡ digit (f .stf)
@@ -58,8 +51,8 @@ response-bits t good =
     let f = responseFields (word1 t) (word2 t) in
     let number : responseAnswer t ≡ responseNumber f = rw good in
     let state : f .«module_state» < 16 = unfold responseFields in omega arith in
-    let s = digit-small (f .stf) in
-    let m = digit-small (f .status .me) in
-    let a = digit-small (f .status .ar) in
-    let i = digit-small (f .status .ic) in
+    let s = digit-lt (f .stf) in
+    let m = digit-lt (f .status .me) in
+    let a = digit-lt (f .status .ar) in
+    let i = digit-lt (f .status .ic) in
     record { stf = omega arith; me = omega arith; ar = omega arith; ic = omega arith; module-state = omega arith }

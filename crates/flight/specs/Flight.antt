@@ -1,11 +1,10 @@
 -- What the flight computer's C program is answered, as one number each time.
--- Assumes nothing.
 use Prim.Native.Nat.{ℕ, _+_, _*_, _/_, _%_, _^_}
 use mathlib.Core.Bool.{cond}
 use mathlib.Core.List.{List}
 use lib.Dec.{eqb}
 use lib.ListN.{length}
-use Rattle.crc.specs.Bits.{digit, wordsOf}
+use Rattle.bits.specs.Bits.{digit, wordsOf}
 use Rattle.crc.specs.Crc.{crc16}
 use Rattle.rules.specs.Refusals as refusal
 use Rattle.token.specs.Command.{command, commandFits, commandFirst, commandSecond, goodCommand, commandFields}

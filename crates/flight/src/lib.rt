@@ -1,10 +1,9 @@
 // The calls of the flight computer's C program: the token builder, the two token readers and the payload check.
 // Each answers with one number of 32 bits. include/spi2.h says the same in C's words.
 ghost use mathlib.Core.Path.{_≡_};
-ghost use Prim.Native.Nat.{_≤_};
-ghost use Rattle.crc.specs.Bits.{digit};
 ghost use Rattle.flight.specs.Flight;
 ghost use Rattle.flight.specs.Flight.{tokenAnswer, commandNumber, commandAnswer, responseNumber, responseAnswer, checkAnswer};
+use bits::digit_of;
 use rules::refusal;
 use token::command::Command;
 use token::command::CommandBuilt;
@@ -59,24 +58,15 @@ pub extern "C" fn spi2_read_command(token: u32) -> u32
     }
 }
 
-fn digit_of(bit: bool) -> u32
-    ensures { λ r. ⌜ (r ≡ digit bit) × (r ≤ 1) ⌝ }
-{
-    if bit {
-        return 1;
-    }
-    0
-}
-
 fn response_number(f: Response) -> u32
     ensures { λ r. ⌜ r ≡ responseNumber f ⌝ }
 {
     let status = f.status;
     GOOD
-        + digit_of(f.stf) * 128
-        + digit_of(status.me) * 64
-        + digit_of(status.ar) * 32
-        + digit_of(status.ic) * 16
+        + digit_of(f.stf) as u32 * 128
+        + digit_of(status.me) as u32 * 64
+        + digit_of(status.ar) as u32 * 32
+        + digit_of(status.ic) as u32 * 16
         + f.module_state as u32
 }
 

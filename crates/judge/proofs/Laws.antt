@@ -7,8 +7,7 @@ use mathlib.Core.Path.{_≡_, refl, sym, _∙_, subst}
 use borrow.Author.Tests.{leb-true, ltb-false}
 use lib.Dec.{eqb, ltb}
 use lib.ListN.{length, drop, getD}
-use Rattle.rules.specs.Rules.{table, rowIn, ruleOf, tick, read, write}
-use Rattle.rules.specs.declared.Found.the-variants.{Row}
+use Rattle.rules.specs.Rules.{table, found, rowIn, ruleOf, tick, read, write}
 use Rattle.token.specs.Command.{commandMarks, goodCommand, commandFields}
 use Rattle.token.specs.Marks.{goodMarks}
 use Rattle.token.specs.Response.{clean, anySet}
@@ -34,6 +33,15 @@ first-passes a b h = go (anySet a) refl h
     go : (t : Bool) → anySet a ≡ t → anySet (cond t a b) ≡ false → (anySet a ≡ false) × (anySet b ≡ false)
     go true e h = never (sym e ∙ h)
     go false e h = (e, h)
+
+-- by what a step gave and what a test of it said
+pub fails : {step given : Status} {set : Bool} (next : Status) → given ≡ step → set ≡ anySet given → set ≡ true → given ≡ firstFailing step next
+unfolding firstFailing
+fails next e test h = rw (← e, ← test, h)
+
+pub passes : {step given : Status} {set : Bool} (next : Status) → given ≡ step → set ≡ anySet given → set ≡ false → next ≡ firstFailing step next
+unfolding firstFailing
+passes next e test h = rw (← e, ← test, h)
 
 -- ---- steps 1 to 3
 
@@ -66,8 +74,8 @@ passed-good first second h = go (commandMarks first second .prefix) (commandMark
 pub tick-index : (f : Command) → anySet (step2 f (ruleOf (f .code))) ≡ false → f .code ≡ tick .code → f .«sub_address» ≤ 63
 unfolding anySet step2 subStatus subFits ruleOf table rowIn
 tick-index f h e =
-    let found : anySet (step2 f (Row tick)) ≡ false = subst (λ (n : ℕ). anySet (step2 f (ruleOf n)) ≡ false) e h in
-    let (_, sub) = holds (lengthFits f tick) (subStatus f tick) ic refl found in
+    let listed : anySet (step2 f (found tick)) ≡ false = subst (λ (n : ℕ). anySet (step2 f (ruleOf n)) ≡ false) e h in
+    let (_, sub) = holds (lengthFits f tick) (subStatus f tick) ic refl listed in
     leb-true (f .«sub_address») 63 (holds (subFits f tick) clean _ (either (eqb (f .code) (tick .code))) sub .0)
   where
     either : (t : Bool) → anySet (cond t ar ic) ≡ true

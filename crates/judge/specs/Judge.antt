@@ -5,10 +5,8 @@ use mathlib.Core.List.{List}
 use lib.Dec.{eqb, leb, ltb}
 use lib.ListN.{length, drop, getD}
 use Rattle.crc.specs.Crc.{agrees}
-use Rattle.rules.specs.Rules.{ruleOf, messageWords, synch, tick, write, read, configWrite, configRead}
+use Rattle.rules.specs.Rules.{InTable, ruleOf, messageWords, synch, tick, write, read, configWrite, configRead}
 use Rattle.rules.specs.declared.Rule.{Rule}
-use Rattle.rules.specs.declared.Found.{Found}
-use Rattle.rules.specs.declared.Found.the-variants.{Row, NotInTable}
 use Rattle.token.specs.Command.{commandMarks, commandFields}
 use Rattle.token.specs.Response.{status, clean, anySet}
 use Rattle.token.specs.declared.command.Command.{Command}
@@ -45,11 +43,10 @@ unfoldable pub subStatus : Command → Rule → Status
 subStatus f r = cond (subFits f r) clean (cond (eqb (f .code) (tick .code)) ar ic)
 
 -- Step 2. Code not in the table, or length or sub-address not as its row asks: IC. TICK of length 0 with an index above 63: AR instead.
-unfoldable pub step2 : Command → Found → Status
-step2 f NotInTable = ic
-step2 f (Row r) = cond (lengthFits f r) (subStatus f r) ic
+unfoldable pub step2 : Command → InTable → Status
+step2 f found = cond (found .there) (cond (lengthFits f (found .rule)) (subStatus f (found .rule)) ic) ic
 
--- the first word of a block. Bases and sub-addresses count words.
+-- the place of a block's first word. Bases and sub-addresses count words.
 unfoldable pub wordPlace : ℕ → ℕ → ℕ
 wordPlace base sub = base + sub
 
@@ -89,7 +86,8 @@ step5 f payload = cond (isChecked (f .code)) (checkStatus (f .length) payload) c
 unfoldable pub endStatus : Command → List ℕ → ℕ → Status
 endStatus f words left = firstFailing (step4 (length words) (f .length) left) (step5 f (drop 2 words))
 
--- steps 1 to 5 of all words of a message and the bits left over. A message with fewer than two whole words is ME, by step 4 alone.
+-- steps 1 to 5 of all words of a message and the bits left over. A message with fewer than two whole words, but at least one bit, is ME,
+-- by step 4 alone; one of no bits is not judged (`silent`, Release.antt of the card).
 unfoldable pub judgement : ℕ → Bases → List ℕ → ℕ → Status
 judgement size b words left =
     let first = getD words 0 0 in

@@ -1,15 +1,15 @@
 // The judgement of a message: steps 1 to 3 of its command token, and 4 and 5 of all its words. Each step gives the status
 // bits that it sets, and the first that sets any decides.
 ghost use mathlib.Core.Path.{_≡_};
-ghost use Rattle.rules.specs.Rules.{ruleOf};
+ghost use Rattle.rules.specs.Rules.{found, ruleOf};
 ghost use Prim.Native.Nat.{_≤_};
 ghost use mathlib.Core.Bool.{cond};
 ghost use lib.ListN.{length};
-ghost use Rattle.rules.specs.declared.Found.the-variants.{Row};
 ghost use Rattle.token.specs.Response.{clean};
 ghost use Rattle.judge.specs.Judge.{ar, step1, lengthFits, subFits, subStatus, step2, wordPlace, inside, step3, tokenStatus, step4, isChecked, checkStatus, step5, endStatus};
 ghost use Rattle.judge.specs.Judge;
 use rules::Found;
+use rules::Name;
 use rules::Rule;
 use token::command::Command;
 use token::command::CommandToken;
@@ -80,7 +80,7 @@ fn step_2(fields: Command) -> Status
 
 // Step 2 for a code that has a row.
 fn row_status(fields: Command, rule: Rule) -> Status
-    ensures { λ r. ⌜ r ≡ step2 fields (Row rule) ⌝ }
+    ensures { λ r. ⌜ r ≡ step2 fields (found rule) ⌝ }
 {
     if length_fits(fields, rule) {
         return sub_status(fields, rule);
@@ -95,7 +95,7 @@ fn sub_status(fields: Command, rule: Rule) -> Status
     if sub_fits(fields, rule) {
         return CLEAN;
     }
-    if fields.code == rules::TICK.code {
+    if rules::is_command(fields.code, Name::Tick) {
         return AR;
     }
     IC
@@ -121,10 +121,10 @@ fn block_status(size: usize, base: u32, fields: Command) -> Status
 fn step_3(size: usize, bases: Bases, fields: Command) -> Status
     ensures { λ r. ⌜ r ≡ step3 size bases fields ⌝ }
 {
-    if fields.code == rules::WRITE.code {
+    if rules::is_command(fields.code, Name::Write) {
         return block_status(size, bases.write_base, fields);
     }
-    if fields.code == rules::READ.code {
+    if rules::is_command(fields.code, Name::Read) {
         return block_status(size, bases.read_base, fields);
     }
     CLEAN
@@ -161,10 +161,10 @@ fn step_4(count: usize, length: u8, left: u8) -> Status
 fn is_checked(code: u8) -> bool
     ensures { λ r. ⌜ r ≡ isChecked code ⌝ }
 {
-    (code == rules::WRITE.code)
-        | (code == rules::SYNCH.code)
-        | (code == rules::CONFIG_WRITE.code)
-        | (code == rules::CONFIG_READ.code)
+    rules::is_command(code, Name::Write)
+        | rules::is_command(code, Name::Synch)
+        | rules::is_command(code, Name::ConfigWrite)
+        | rules::is_command(code, Name::ConfigRead)
 }
 
 fn step_5(fields: Command, payload: &[u16]) -> Status

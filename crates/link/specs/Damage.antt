@@ -1,5 +1,4 @@
 -- What a message may suffer on its way: unseen, cut or flipped.
--- Assumes nothing.
 use mathlib.Core.Option.{Option, none, some}
 use Prim.Native.Nat.{ℕ, zero, suc, _-_}
 use mathlib.Core.Bool.{Bool, not}
@@ -12,11 +11,11 @@ flipAt i [] = []
 flipAt zero (b ∷ line) = not b ∷ line
 flipAt (suc i) (b ∷ line) = b ∷ flipAt i line
 
--- at most one bit of a line: none, or some place
-abbrev pub AtMostOne : Type 0
-AtMostOne = Option ℕ
+-- what is turned over on one line: at most one bit, so none, or that of some place
+abbrev pub Flips : Type 0
+Flips = Option ℕ
 
-unfoldable pub flipped : AtMostOne → List Bool → List Bool
+unfoldable pub flipped : Flips → List Bool → List Bool
 flipped none line = line
 flipped (some i) line = flipAt i line
 
@@ -31,7 +30,7 @@ pub data Damage : Type 0 where
   -- cut: the card sees the first k bits and a release, and the controller reads all zero or all one bits from there
   Cut : ℕ → Bool → Damage
   -- flipped: at most one bit on the way to the card, and at most one on the way back
-  Flipped : AtMostOne → AtMostOne → Damage
+  Flipped : Flips → Flips → Damage
 
 abbrev pub undamaged : Damage
 undamaged = Flipped none none

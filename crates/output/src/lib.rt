@@ -2,9 +2,10 @@
 ghost use mathlib.Core.Path.{_≡_};
 ghost use lib.Dec.{leb};
 ghost use lib.ListN.{length};
-ghost use Rattle.lines.specs.Lines.{lineText};
+ghost use Rattle.text.specs.Lines.{lineGives};
+ghost use Rattle.text.specs.Text.{lineText};
 use libc::STDOUT_FILENO;
-use lines::Line;
+use text::Line;
 
 // Writes the first `count` bytes of a buffer, where it has as many, and says whether it has.
 pub fn write_front(buffer: &[u8], count: usize) -> bool
@@ -19,9 +20,9 @@ pub fn write_front(buffer: &[u8], count: usize) -> bool
 
 // Writes a line, and gives the number of its bytes.
 pub fn write_line(line: Line) -> usize
-    ensures { λ r. ⌜ r ≡ length (lineText line) ⌝ }
+    ensures { λ r. ⌜ r ≡ length (lineText (lineGives line)) ⌝ }
 {
-    let text = lines::line_text(line);
+    let text = text::line_text(line);
     let bytes = text.bytes;
     write_front(&bytes, text.count);
     text.count

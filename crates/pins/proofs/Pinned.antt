@@ -1,5 +1,5 @@
 -- Bit by bit through the shifter is word by word. Sixteen bits exchange a word; a whole line gives the card, the memory, the bits
--- and the refusals that demand 3 says of it. So demand 3 holds for a card behind its shifter.
+-- and the refusals that it gives word by word.
 -- Assumes nothing.
 use Prim.Native.Nat.{ℕ, zero, suc, _+_, _*_, _/_, _≤_, _<_}
 use native.Mathlib.Numerals.{add-one}
@@ -11,12 +11,12 @@ use borrow.Author.Tests.{le-ltb, eq-eqb}
 use lib.Dec.{lit≤}
 use lib.ListN.{length, getD, take, drop, length-append, length-take, length-drop, drop-of-length-le, take-append-drop}
 use lib.Seq.{drop-cons, drop-drop, take-append-add}
-use Rattle.crc.specs.Bits.{bits, number, stream}
-use Rattle.crc.proofs.Digits.{length-bits}
-use Rattle.link.specs.Lines as lines
-use Rattle.link.specs.Lines.{words, wholeWords}
-use Rattle.card.specs.Card.{wordRefusal, told, exchanged}
-use Rattle.card.specs.Sending.{nextWord, taken}
+use Rattle.bits.specs.Bits.{bits, number, stream}
+use Rattle.bits.proofs.Digits.{length-bits}
+use Rattle.bits.specs.Lines as lines
+use Rattle.bits.specs.Lines.{words, wholeWords}
+use Rattle.card.specs.Card.{moduleSet, wordRefusal}
+use Rattle.card.specs.Exchange.{told, exchanged, nextWord, taken}
 use Rattle.card.specs.declared.Card.{Card}
 use Rattle.card.proofs.Laws.{in-range, lent}
 use Rattle.card.proofs.Ranges.{exchanged-ranged}
@@ -25,17 +25,14 @@ use Rattle.shifter.specs.Shifter.{cleared, current, step, leftOver}
 use Rattle.shifter.specs.declared.LeftOver.{LeftOver}
 use Rattle.shifter.specs.declared.Shifter.{Shifter}
 use Rattle.shifter.specs.declared.Step.{Step}
-use Rattle.delivery.specs.Delivery.{Delivery, Undamaged}
-use Rattle.delivery.specs.Play.{after, answers, listed, listened, cardAfter, memoryOf, sentBits, refusalsOf, heard}
-use Rattle.delivery.proofs.Closed.{Closed, selected-idle, closed}
-use Rattle.delivery.proofs.Held.{Idle, holding, word-quiet}
-use Rattle.delivery.proofs.Machine.{Hearing}
-use Rattle.delivery.proofs.Theorem.{delivery-by, undamaged-by}
-use Rattle.pins.specs.AtPins.{Ran, behind, ran, releasedAfter, atPins}
-use Rattle.pins.specs.Pins.{pinsOf, answer, shifterRefusal, behindShifter, selectedPins, askedWord, handed, clocked, releasedPins, memoryAfterPins}
+use Rattle.card.specs.Whole.{after, answers, listed, listened, cardAfterLine, memoryAfterLine, sentBits, refusalsOf, heard}
+use Rattle.card.proofs.Closed.{Closed, selected-idle, closed, through}
+use Rattle.card.proofs.Holding.{Idle, holding, word-quiet}
+use Rattle.pins.specs.AtPins.{Ran, behind, ran, releasedAfter, heardAtPins}
+use Rattle.pins.specs.Pins.{pinsOf, givesPins, shifterRefusal, behindShifter, selectedPins, modulePins, askedWord, handed, clocked, releasedPins, memoryAfterPins}
 use Rattle.pins.specs.declared.Clocked.{Clocked}
 use Rattle.pins.specs.declared.Pins.{Pins}
-use Rattle.pins.proofs.Midway.{midway, midway-count, step-midway, step-sixteenth, current-later}
+use Rattle.shifter.proofs.Midway.{midway, midway-count, next-bit, step-midway, step-sixteenth, current-later}
 
 -- ---- a shifter whose count is in range
 
@@ -46,6 +43,12 @@ left-taken s h = rw (le-ltb 15 (s .count) h)
 unrefused : (p : Pins) → p .shifter .count ≤ 15 → shifterRefusal p ≡ 0
 unfolding shifterRefusal
 unrefused p h = ap (λ (l : LeftOver). l .refusal) (left-taken (p .shifter) h)
+
+-- a module-state call behind it is the card's
+pub module-at-pins : (p : Pins) → p .shifter .count ≤ 15 → (stf : Bool) (state : ℕ)
+    → modulePins p stf state .pins .card ≡ moduleSet (p .card) stf state .card
+unfolding modulePins
+module-at-pins p h stf state = rw (unrefused p h)
 
 -- ---- the bits of one word
 
@@ -86,12 +89,6 @@ module _ (c : Card) (memory : List ℕ) (quiet : wordRefusal c (length memory) �
     unfolding turned handed
     clocked-last h = clocked-turned (omega arith) ∙ ap turned (step-sixteenth out xs _ (asked-first xs) b h)
 
-    -- the bit that goes out is the next one of the word
-    next-bit : length xs < 16 → getD (bits 16 out) (length xs) false ∷ drop (length (xs ++ (b ∷ []))) (bits 16 out) ≡ drop (length xs) (bits 16 out)
-    next-bit h =
-        ap (λ (n : ℕ). getD (bits 16 out) (length xs) false ∷ drop n (bits 16 out)) (length-append xs (b ∷ []) ∙ add-one (length xs))
-        ∙ sym (drop-cons (bits 16 out) (length xs) false (omega (arith, length-bits 16 out)))
-
     -- the bits behind this one
     then : List Bool → Clocked → Ran
     then ys r = behind r (ran (r .pins) memory ys)
@@ -105,7 +102,7 @@ module _ (c : Card) (memory : List ℕ) (quiet : wordRefusal c (length memory) �
       let all : length (xs ++ (b ∷ [])) + length ys < 16 = simp length-append (omega arith) in
       ap (then xs b ys) (clocked-within xs b (omega arith))
       ∙ ap (behind (record { refusal = 0; pins = mid (xs ++ (b ∷ [])); bit = getD (bits 16 out) (length xs) false })) (part ys (xs ++ (b ∷ [])) all)
-      ∙ ap₂ (λ (l : List Bool) (t : List Bool). record { pins = mid l; sent = take (suc (length ys)) t; refused = [] }) (append-assoc xs (b ∷ []) ys) (next-bit xs b (omega arith))
+      ∙ ap₂ (λ (l : List Bool) (t : List Bool). record { pins = mid l; sent = take (suc (length ys)) t; refused = [] }) (append-assoc xs (b ∷ []) ys) (next-bit out xs b (omega arith))
 
   -- and sixteen bits: the word goes to the card, and the next word has gone out
   whole : (ys xs : List Bool) → length xs + length ys ≡ 16 → length xs < 16
@@ -116,14 +113,14 @@ module _ (c : Card) (memory : List ℕ) (quiet : wordRefusal c (length memory) �
       let none : drop (length (xs ++ (b ∷ []))) (bits 16 out) ≡ [] = drop-of-length-le (bits 16 out) {i = length (xs ++ (b ∷ []))} (simp length-append (omega (arith, length-bits 16 out))) in
       ap (then xs b []) (clocked-last xs b (omega arith))
       ∙ ap (λ (l : List Bool). record { pins = pinsOf (exchanged c memory (number (xs ++ (b ∷ []))) .card) cleared; sent = l; refused = [] })
-      (ap (λ (l : List Bool). getD (bits 16 out) (length xs) false ∷ l) (sym none) ∙ next-bit xs b h)
+      (ap (λ (l : List Bool). getD (bits 16 out) (length xs) false ∷ l) (sym none) ∙ next-bit out xs b h)
   whole (b ∷ y ∷ ys) xs all h =
       let rest : length (xs ++ (b ∷ [])) + length (y ∷ ys) ≡ 16 = simp length-append (omega arith) in
       ap (then xs b (y ∷ ys)) (clocked-within xs b (omega arith))
       ∙ ap (behind (record { refusal = 0; pins = mid (xs ++ (b ∷ [])); bit = getD (bits 16 out) (length xs) false }))
       (whole (y ∷ ys) (xs ++ (b ∷ [])) rest (simp length-append (omega arith)))
       ∙ ap₂ (λ (l : List Bool) (t : List Bool). record { pins = pinsOf (exchanged c memory (number l) .card) cleared; sent = t; refused = [] })
-      (append-assoc xs (b ∷ []) (y ∷ ys)) (next-bit xs b h)
+      (append-assoc xs (b ∷ []) (y ∷ ys)) (next-bit out xs b h)
 
   -- so with one memory from a word's first bit to its last, whatever it is before and behind them, sixteen bits exchange a word
   pub word-at-pins : (line : List Bool) → length line ≡ 16
@@ -141,6 +138,10 @@ module _ (c : Card) (memory : List ℕ) (quiet : wordRefusal c (length memory) �
   sent-next : (word : ℕ) → exchanged c memory word .sent ≡ out
   unfolding exchanged
   sent-next word = rw quiet
+
+  told-next : told c memory .word ≡ out
+  unfolding told
+  told-next = rw quiet
 
 -- ---- a line
 
@@ -162,7 +163,7 @@ ran-on p memory (b ∷ xs) ys =
 lineRan : Card → List ℕ → ℕ → List Bool → Ran
 lineRan c memory n line = record {
   pins = pinsOf (after c memory (words n line)) (midway (nextWord (after c memory (words n line)) memory) (drop (n * 16) line));
-  sent = take (length line) (stream 16 (answers c memory (words n line) ++ (nextWord (after c memory (words n line)) memory ∷ [])));
+  sent = take (length line) (stream 16 (answers c memory (words n line) ++ (told (after c memory (words n line)) memory .word ∷ [])));
   refused = [];
 }
 
@@ -171,7 +172,8 @@ line-at-pins : (n : ℕ) (c : Card) (memory : List ℕ) → wordRefusal c (lengt
 unfolding lineRan joined words after answers stream midway
 line-at-pins zero c memory quiet line h =
     part c memory quiet line [] (omega arith)
-    ∙ ap (λ (l : List Bool). record { pins = mid c memory quiet line; sent = take (length line) l; refused = [] }) (sym (append-nil (bits 16 (nextWord c memory))))
+    ∙ ap (λ (l : List Bool). record { pins = mid c memory quiet line; sent = take (length line) l; refused = [] })
+    (sym (append-nil (bits 16 (nextWord c memory))) ∙ ap (λ (w : ℕ). bits 16 w ++ []) (sym (told-next c memory quiet)))
 line-at-pins (suc n) c memory quiet line h =
     let front : List Bool = take 16 line in
     let rest : List Bool = drop 16 line in
@@ -180,7 +182,7 @@ line-at-pins (suc n) c memory quiet line h =
     let fewer : length rest / 16 ≡ n = omega (arith, length-drop 16 line) in
     let long : length line ≡ length (bits 16 (nextWord c memory)) + length rest = omega (arith, length-drop 16 line, length-bits 16 (nextWord c memory)) in
     let place : 16 + n * 16 ≡ suc n * 16 = omega arith in
-    let tail : List Bool = stream 16 (answers c′ memory (words n rest) ++ (nextWord (after c′ memory (words n rest)) memory ∷ [])) in
+    let tail : List Bool = stream 16 (answers c′ memory (words n rest) ++ (told (after c′ memory (words n rest)) memory .word ∷ [])) in
     ap (ran (pinsOf c cleared) memory) (sym (take-append-drop 16 line))
     ∙ ran-on (pinsOf c cleared) memory front rest
     ∙ ap (λ (r : Ran). joined r (ran (r .pins) memory rest)) (word-at-pins c memory quiet front sixteen)
@@ -198,7 +200,7 @@ module _ (c : Card) (memory : List ℕ) (idle : Idle c memory) (s : Shifter) (in
   opened = holding c [] 0
 
   -- select opens the message and clears the shifter
-  select-pins : selectedPins (pinsOf c s) ≡ answer 0 (pinsOf opened cleared)
+  select-pins : selectedPins (pinsOf c s) ≡ givesPins 0 (pinsOf opened cleared)
   unfolding selectedPins behindShifter
   select-pins = rw (unrefused (pinsOf c s) in-range, selected-idle c memory idle)
 
@@ -208,37 +210,21 @@ module _ (c : Card) (memory : List ℕ) (idle : Idle c memory) (s : Shifter) (in
   all-ran : ran (pinsOf opened cleared) memory line ≡ end
   all-ran = line-at-pins (length line / 16) opened memory (word-quiet c memory idle [] 0 (lit≤ tt)) line refl
 
-  left : end .pins .shifter .count ≡ lines.leftOver line
-  unfolding lineRan lines.leftOver
+  left : end .pins .shifter .count ≡ lines.bitsLeft line
+  unfolding lineRan lines.bitsLeft
   left = midway-count _ (drop (length line / 16 * 16) line) ∙ length-drop (length line / 16 * 16) line ∙ omega arith
 
   small : end .pins .shifter .count ≤ 15
-  unfolding lines.leftOver
+  unfolding lines.bitsLeft
   small = omega (arith, left)
 
-  left-is : leftOver (end .pins .shifter) .bits ≡ lines.leftOver line
+  left-is : leftOver (end .pins .shifter) .bits ≡ lines.bitsLeft line
   left-is = ap (λ (l : LeftOver). l .bits) (left-taken (end .pins .shifter) small) ∙ left
 
-  message-closed : Closed c memory (wholeWords line) (lines.leftOver line)
-  message-closed = closed c memory idle (wholeWords line) (lines.leftOver line) (unfold lines.leftOver in omega arith)
+  message-closed : Closed c memory (wholeWords line) (lines.bitsLeft line)
+  message-closed = closed c memory idle (wholeWords line) (lines.bitsLeft line) (unfold lines.bitsLeft in omega arith)
 
-  at-pins : (way : List Bool → List Bool) → atPins s c memory line way ≡ heard c memory line way
-  unfolding lineRan atPins releasedAfter heard cardAfter memoryOf sentBits refusalsOf listened wholeWords releasedPins memoryAfterPins listed
-  at-pins way = rw (select-pins, all-ran, unrefused (end .pins) small, left-is, message-closed .select-quiet, message-closed .words-quiet, cardAfter, sentBits, listened, selected-idle c memory idle)
-
-  -- the shifter is in range again, so that the next message can follow
-  pub in-range-after : releasedAfter (pinsOf c s) memory line .pins .shifter .count ≤ 15
-  unfolding releasedAfter releasedPins
-  in-range-after = rw (select-pins, all-ran, unrefused (end .pins) small) small
-
--- at the pins a card hears a line as it hears it word by word
-pub pinned : (s : Shifter) → s .count ≤ 15 → Hearing (atPins s)
-pinned s in-range c memory idle line way = at-pins c memory idle s in-range line way
-
--- ---- demand 3 at the pins, whatever the shifter holds, in range, before each of the three messages
-
-pub delivery-at-pins : (s : ℕ → Shifter) → ((n : ℕ) → s n .count ≤ 15) → Delivery (λ n. atPins (s n))
-delivery-at-pins s in-range = delivery-by (λ n. atPins (s n)) (λ n. pinned (s n) (in-range n))
-
-pub undamaged-at-pins : (s : ℕ → Shifter) → ((n : ℕ) → s n .count ≤ 15) → Undamaged (λ n. atPins (s n))
-undamaged-at-pins s in-range = undamaged-by (λ n. atPins (s n)) (λ n. pinned (s n) (in-range n))
+  -- at the pins a card hears a line as it hears it word by word
+  pub at-pins : through (λ (p : Pins). p .card) (heardAtPins (pinsOf c s) memory line) ≡ heard c memory line
+  unfolding through lineRan heardAtPins releasedAfter heard cardAfterLine memoryAfterLine sentBits refusalsOf listened wholeWords releasedPins memoryAfterPins listed
+  at-pins = rw (select-pins, all-ran, unrefused (end .pins) small, left-is, message-closed .select-quiet, message-closed .words-quiet, cardAfterLine, sentBits, listened, selected-idle c memory idle)

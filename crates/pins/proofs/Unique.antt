@@ -3,11 +3,19 @@
 use mathlib.Core.Path.{_≡_, sym, _∙_}
 use denote.Ref.{now}
 use Rattle.pins.proofs.clock.Reads as clock
+use Rattle.pins.proofs.power_up.Reads as power-up
 use Rattle.pins.proofs.release.Reads as release
 use Rattle.pins.proofs.select.Reads as select
+use Rattle.pins.proofs.set_module.Reads as set-module
+
+pub one-power-up : (κs : _) (a : _) (r s : _) (e f : _) → power-up.Post κs a r e → power-up.Post κs a s f → r ≡ s
+one-power-up κs a r s e f p q = p ∙ sym q
 
 pub one-select : (κs : _) (a : _) (r s : _) (e f : _) → select.Post κs a r e → select.Post κs a s f → r ≡ s
 one-select κs a r s e f p q = p ∙ sym q
+
+pub one-set-module : (κs : _) (a : _) (r s : _) (e f : _) → set-module.Post κs a r e → set-module.Post κs a s f → r ≡ s
+one-set-module κs a r s e f p q = p ∙ sym q
 
 pub one-clock : (κs : _) (a : _) (r s : _) (e f : _) → clock.Post κs a r e → clock.Post κs a s f → r ≡ s
 one-clock κs a r s e f p q = p ∙ sym q

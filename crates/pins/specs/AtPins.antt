@@ -1,13 +1,11 @@
 -- A whole message at the pins: select, the bits of a line, release.
--- Assumes nothing.
 use Prim.Native.Nat.{ℕ}
 use mathlib.Core.Bool.{Bool}
 use mathlib.Core.List.{List, [], _∷_, _++_}
 use lib.ListN.{length}
-use Rattle.shifter.specs.declared.Shifter.{Shifter}
-use Rattle.delivery.specs.Play.{listed, Hears}
+use Rattle.card.specs.Whole.{listed, Hears}
 use Rattle.pins.specs.Pins.{pinsOf, selectedPins, clocked, releasedPins, memoryAfterPins}
-use Rattle.pins.specs.declared.Answer.{Answer}
+use Rattle.pins.specs.declared.PinsAfter.{PinsAfter}
 use Rattle.pins.specs.declared.Clocked.{Clocked}
 use Rattle.pins.specs.declared.Pins.{Pins}
 
@@ -29,16 +27,14 @@ abbrev pub between : Pins → List ℕ → List Bool → Ran
 between p memory line = ran (selectedPins p .pins) memory line
 
 -- and after release
-unfoldable pub releasedAfter : Pins → List ℕ → List Bool → Answer
+unfoldable pub releasedAfter : Pins → List ℕ → List Bool → PinsAfter
 releasedAfter p memory line = releasedPins (between p memory line .pins) (length memory)
 
--- how a card hears a line behind its shifter, whatever the shifter held before select
-unfoldable pub atPins : Shifter → Hears
-atPins s c memory line way =
-    let p = pinsOf c s in
-    record {
-      card = releasedAfter p memory line .pins .card;
-      memory = memoryAfterPins (between p memory line .pins) memory;
-      got = way (between p memory line .sent);
-      refused = listed (selectedPins p .refusal) ++ between p memory line .refused ++ listed (releasedAfter p memory line .refusal);
-    }
+-- how a card hears a line behind its shifter
+unfoldable pub heardAtPins : Hears Pins
+heardAtPins p memory line = record {
+  side = releasedAfter p memory line .pins;
+  memory = memoryAfterPins (between p memory line .pins) memory;
+  sent = between p memory line .sent;
+  refused = listed (selectedPins p .refusal) ++ between p memory line .refused ++ listed (releasedAfter p memory line .refusal);
+}

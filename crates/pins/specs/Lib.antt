@@ -1,2 +1,3 @@
 pub mod AtPins
 pub mod Pins
+pub mod Run

@@ -1,24 +1,27 @@
--- A card behind its bit shifter: select, each bit and release. A refusal gives its number, the state it was given, the bit 0, and memory as lent.
+-- A card behind its bit shifter: power-up, select, module state, each bit and release. A refusal gives its number, the state it was given, the bit 0, and memory as lent.
 use Prim.Native.Nat.{ℕ}
 use mathlib.Core.Bool.{Bool, false, cond}
 use mathlib.Core.List.{List}
 use lib.Dec.{eqb}
 use lib.ListN.{length}
 use Rattle.rules.specs.Refusals as refusal
-use Rattle.card.specs.Card.{selected, wordRefusal, told, exchanged, released, memoryAfter}
+use Rattle.card.specs.Card.{powered, selected, moduleSet, wordRefusal}
+use Rattle.card.specs.Exchange.{told, exchanged}
+use Rattle.card.specs.Release.{released, memoryAfter}
 use Rattle.card.specs.declared.Card.{Card}
+use Rattle.card.specs.declared.CardAfter.{CardAfter}
 use Rattle.shifter.specs.Shifter.{cleared, step, leftOver}
 use Rattle.shifter.specs.declared.Sent.{Sent}
 use Rattle.shifter.specs.declared.Shifter.{Shifter}
-use Rattle.pins.specs.declared.Answer.{Answer}
+use Rattle.pins.specs.declared.PinsAfter.{PinsAfter}
 use Rattle.pins.specs.declared.Clocked.{Clocked}
 use Rattle.pins.specs.declared.Pins.{Pins}
 
 abbrev pub pinsOf : Card → Shifter → Pins
 pinsOf c s = record { card = c; shifter = s }
 
-abbrev pub answer : ℕ → Pins → Answer
-answer n p = record { refusal = n; pins = p }
+abbrev pub givesPins : ℕ → Pins → PinsAfter
+givesPins n p = record { refusal = n; pins = p }
 
 -- State for a shifter whose count is above 15; it comes before what the card refuses
 unfoldable pub shifterRefusal : Pins → ℕ
@@ -27,11 +30,24 @@ shifterRefusal p = leftOver (p .shifter) .refusal
 unfoldable pub behindShifter : Pins → ℕ → ℕ
 behindShifter p number = cond (eqb (shifterRefusal p) refusal.None) number (shifterRefusal p)
 
+-- the card's own answer, where the shifter is in range; the shifter stays
+abbrev pub answered : Pins → CardAfter → PinsAfter
+answered p a =
+    cond (eqb (shifterRefusal p) refusal.None) (givesPins (a .refusal) (pinsOf (a .card) (p .shifter))) (givesPins (shifterRefusal p) p)
+
+-- power-up: the card's, behind a clear shifter: Size
+unfoldable pub poweredPins : ℕ → PinsAfter
+poweredPins size = givesPins (powered size .refusal) (pinsOf (powered size .card) cleared)
+
 -- select opens the card's message and clears the shifter: State, Open
-unfoldable pub selectedPins : Pins → Answer
+unfoldable pub selectedPins : Pins → PinsAfter
 selectedPins p =
     let number = behindShifter p (selected (p .card) .refusal) in
-    cond (eqb number refusal.None) (answer refusal.None (pinsOf (selected (p .card) .card) cleared)) (answer number p)
+    cond (eqb number refusal.None) (givesPins refusal.None (pinsOf (selected (p .card) .card) cleared)) (givesPins number p)
+
+-- module state, with STF: State, Open, Argument
+unfoldable pub modulePins : Pins → Bool → ℕ → PinsAfter
+modulePins p stf state = answered p (moduleSet (p .card) stf state)
 
 -- the card's next word is needed before the word's first bit, and then no more
 unfoldable pub askedWord : Pins → List ℕ → ℕ
@@ -51,10 +67,8 @@ clocked p memory bit =
     (record { refusal = number; pins = p; bit = false })
 
 -- release takes the shifter's count as left-over bits: State, Size, Closed
-unfoldable pub releasedPins : Pins → ℕ → Answer
-releasedPins p size =
-    let a = released (p .card) size (leftOver (p .shifter) .bits) in
-    cond (eqb (shifterRefusal p) refusal.None) (answer (a .refusal) (pinsOf (a .card) (p .shifter))) (answer (shifterRefusal p) p)
+unfoldable pub releasedPins : Pins → ℕ → PinsAfter
+releasedPins p size = answered p (released (p .card) size (leftOver (p .shifter) .bits))
 
 -- the lent memory after release; nothing else changes it
 unfoldable pub memoryAfterPins : Pins → List ℕ → List ℕ

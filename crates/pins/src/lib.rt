@@ -1,7 +1,8 @@
-// A card behind its bit shifter: what select, each bit and release do at the pins. Both go in by value and come back.
+// A card behind its bit shifter: what power-up, select, each bit, release and a module-state call do at the pins. Both
+// go in by value and come back.
 ghost use mathlib.Core.Path.{_≡_};
 ghost use lib.ListN.{length};
-ghost use Rattle.pins.specs.Pins.{shifterRefusal, behindShifter, selectedPins, askedWord, handed, clocked, releasedPins, memoryAfterPins};
+ghost use Rattle.pins.specs.Pins.{shifterRefusal, behindShifter, poweredPins, selectedPins, modulePins, askedWord, handed, clocked, releasedPins, memoryAfterPins};
 use card::Card;
 use rules::refusal;
 use shifter::Sent;
@@ -13,7 +14,7 @@ pub struct Pins {
 }
 
 // A refusal's number, or 0, and the state after.
-pub struct Answer {
+pub struct PinsAfter {
     pub refusal: u8,
     pub pins: Pins,
 }
@@ -28,7 +29,7 @@ pub struct Clocked {
 fn shifter_refusal(pins: Pins) -> u8
     ensures { λ r. ⌜ r ≡ shifterRefusal pins ⌝ }
 {
-    let left = shifter::left_over(pins.shifter);
+    let left = shifter::left_copy(pins.shifter);
     left.refusal
 }
 
@@ -43,25 +44,57 @@ fn behind_shifter(pins: Pins, number: u8) -> u8
     number
 }
 
+// The card as it powers up, behind a clear shifter.
+pub fn power_up(size: usize) -> PinsAfter
+    ensures { λ r. ⌜ r ≡ poweredPins size ⌝ }
+{
+    let powered = card::power_up(size);
+    let card = powered.card;
+    let shifter = shifter::CLEARED;
+    PinsAfter {
+        refusal: powered.refusal,
+        pins: Pins { card, shifter },
+    }
+}
+
 // Opens a message, and clears the shifter.
-pub fn select(pins: Pins) -> Answer
+pub fn select(pins: Pins) -> PinsAfter
     ensures { λ r. ⌜ r ≡ selectedPins pins ⌝ }
 {
     let opened = card::select(pins.card);
     let number = behind_shifter(pins, opened.refusal);
     if number != refusal::NONE {
-        return Answer {
+        return PinsAfter {
             refusal: number,
             pins,
         };
     }
+    let cleared = shifter::clear_copy(pins.shifter);
     let card = opened.card;
-    Answer {
+    let shifter = cleared.shifter;
+    PinsAfter {
         refusal: refusal::NONE,
-        pins: Pins {
-            card,
-            shifter: shifter::CLEARED,
-        },
+        pins: Pins { card, shifter },
+    }
+}
+
+// Sets STF and the module state. The shifter stays.
+pub fn set_module(pins: Pins, stf: bool, state: u8) -> PinsAfter
+    ensures { λ r. ⌜ r ≡ modulePins pins stf state ⌝ }
+{
+    let number = shifter_refusal(pins);
+    if number != refusal::NONE {
+        return PinsAfter {
+            refusal: number,
+            pins,
+        };
+    }
+    let set = card::set_module(pins.card, stf, state);
+    let card = set.card;
+    let shifter = pins.shifter;
+    PinsAfter {
+        refusal: set.refusal,
+        pins: Pins { card, shifter },
     }
 }
 
@@ -111,22 +144,22 @@ pub fn clock(pins: Pins, memory: &[u16], bit: bool) -> Clocked
 }
 
 // Ends the message, with the shifter's count as left-over bits. Only here may memory change.
-pub fn release(pins: Pins, memory: &mut [u16]) -> Answer
+pub fn release(pins: Pins, memory: &mut [u16]) -> PinsAfter
     ensures { λ r. ⌜ r ≡ releasedPins pins (length (now (memory .entry))) ⌝ }
     ensures { λ _. ⌜ now (memory .exit) ≡ memoryAfterPins pins (now (memory .entry)) ⌝ }
 {
-    let left = shifter::left_over(pins.shifter);
+    let left = shifter::left_copy(pins.shifter);
     if left.refusal != refusal::NONE {
-        return Answer {
+        return PinsAfter {
             refusal: left.refusal,
             pins,
         };
     }
-    let answer = release::release(pins.card, memory, left.bits);
-    let card = answer.card;
+    let released = release::release(pins.card, memory, left.bits);
+    let card = released.card;
     let shifter = pins.shifter;
-    Answer {
-        refusal: answer.refusal,
+    PinsAfter {
+        refusal: released.refusal,
         pins: Pins { card, shifter },
     }
 }

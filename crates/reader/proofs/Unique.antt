@@ -6,7 +6,7 @@ use mathlib.Core.Path.{_≡_, refl, sym, ap, _∙_}
 use denote.Ref.{now}
 use lib.Dec.{eqb}
 use Rattle.rules.specs.Refusals as refusal
-use Rattle.controller.specs.Answers.{Answer, readingGives}
+use Rattle.controller.specs.Reader.{Answer, readingGives}
 use Rattle.controller.specs.declared.Reading.{Reading}
 use Rattle.controller.specs.declared.Reading.the-variants.{Good, BadPayload, BadToken, Argument, Count}
 use Rattle.reader.proofs.payload_of.Reads as payload-of

@@ -2,7 +2,7 @@
 ghost use mathlib.Core.Path.{_≡_};
 ghost use lib.ListN.{length};
 ghost use Rattle.rules.specs.Refusals as refusal;
-ghost use Rattle.controller.specs.Answers.{readRefusal, readingGives, answerRead, payloadShown};
+ghost use Rattle.controller.specs.Reader.{readRefusal, readingGives, answerRead, payloadShown};
 use controller::Reading;
 use token::command::CommandToken;
 use token::response::ResponseRead;

@@ -1,51 +1,52 @@
 // What a released message does: it is judged, and where it is accepted its command acts.
 ghost use mathlib.Core.Path.{_≡_};
 ghost use Prim.Native.Nat.{_+_, _*_, _^_, _≤_};
+ghost use mathlib.Core.Bool.{cond};
+ghost use lib.Dec.{eqb};
 ghost use lib.ListN.{length};
 ghost use Rattle.judge.specs.Judge.{wordPlace};
-ghost use Rattle.rules.specs.Rules.{tick};
-ghost use Rattle.card.specs.Card.{releaseRefusal, released, memoryAfter};
-ghost use Rattle.card.specs.Acting.{basesAfter, timeAfter, written, long, longer, silent, verdict, acted, noted, stored, ended, endedMemory};
-ghost use Rattle.card.specs.Sending.{fields};
-use card::Answer;
+ghost use Rattle.rules.specs.Rules.{tick, write};
+ghost use Rattle.card.specs.Release.{releaseRefusal, released, memoryAfter, basesAfter, timeAfter, first32, first64, silent, judged, acted, noted, stored, ended, endedMemory};
+ghost use Rattle.bits.specs.Buffers.{written};
+ghost use Rattle.card.specs.Exchange.{fields};
 use card::Card;
+use card::CardAfter;
 use card::Port;
 use card::empty_message;
 use card::token_of;
 use card::with_message;
 use card::word_refusal;
 use judge::Bases;
+use rules::Name;
 use rules::refusal;
 use token::command::Command;
 use token::response::Status;
 use token::response::any_set;
-
-const RESET: u8 = rules::RESET.code;
-
-const CONFIG_WRITE: u8 = rules::CONFIG_WRITE.code;
-
-const CONFIG_READ: u8 = rules::CONFIG_READ.code;
 
 // ---- effects
 
 fn bases_after(bases: Bases, code: u8, value: u32) -> Bases
     ensures { λ r. ⌜ r ≡ basesAfter bases code value ⌝ }
 {
-    match code {
-        RESET => Bases {
+    if rules::is_command(code, Name::Reset) {
+        return Bases {
             write_base: 0,
             read_base: 0,
-        },
-        CONFIG_WRITE => Bases {
+        };
+    }
+    if rules::is_command(code, Name::ConfigWrite) {
+        return Bases {
             write_base: value,
             read_base: bases.read_base,
-        },
-        CONFIG_READ => Bases {
+        };
+    }
+    if rules::is_command(code, Name::ConfigRead) {
+        return Bases {
             write_base: bases.write_base,
             read_base: value,
-        },
-        _ => bases,
+        };
     }
+    bases
 }
 
 fn power_of_two(index: u8) -> u64
@@ -60,17 +61,17 @@ fn time_after(time: u64, fields: Command, value: u64) -> u64
     requires { ⌜ (fields .code ≡ tick .code → fields .«sub_address» ≤ 63) ⌝ }
     ensures { λ r. ⌜ r ≡ timeAfter time fields value ⌝ }
 {
-    if fields.code == rules::SYNCH.code {
+    if rules::is_command(fields.code, Name::Synch) {
         return value;
     }
-    if fields.code == rules::TICK.code {
+    if rules::is_command(fields.code, Name::Tick) {
         return std::num::wrapping_add_u64(time, power_of_two(fields.sub_address));
     }
     time
 }
 
 // The block goes into memory from a place onward.
-fn write(memory: &mut [u16], place: usize, block: &[u16])
+fn put(memory: &mut [u16], place: usize, block: &[u16])
     requires { ⌜ place + length (now block) ≤ length (now memory) ⌝ }
     ensures { λ _. ⌜ now (memory .exit) ≡ written (now (memory .entry)) place (now (block .entry)) ⌝ }
 {
@@ -90,8 +91,8 @@ fn joined(high: u16, low: u16) -> u32
 }
 
 // The payload's first two words as 32 bits, the first high.
-fn long_of(card: Card) -> u32
-    ensures { λ r. ⌜ r ≡ long card ⌝ }
+fn first32_of(card: Card) -> u32
+    ensures { λ r. ⌜ r ≡ first32 card ⌝ }
 {
     let message = card.port.message;
     joined(message.words[2], message.words[3])
@@ -104,11 +105,11 @@ fn joined_four(high: u32, third: u16, fourth: u16) -> u64
 }
 
 // The payload's first four words as 64 bits, the first highest.
-fn longer_of(card: Card) -> u64
-    ensures { λ r. ⌜ r ≡ longer card ⌝ }
+fn first64_of(card: Card) -> u64
+    ensures { λ r. ⌜ r ≡ first64 card ⌝ }
 {
     let message = card.port.message;
-    joined_four(long_of(card), message.words[4], message.words[5])
+    joined_four(first32_of(card), message.words[4], message.words[5])
 }
 
 fn is_silent(card: Card, left: u8) -> bool
@@ -117,13 +118,13 @@ fn is_silent(card: Card, left: u8) -> bool
     (card.port.message.count == 0) & (left == 0)
 }
 
-fn verdict_of(card: Card, left: u8) -> Status
+// Steps 1 to 5 of the words received.
+fn judged_status(card: Card, left: u8) -> Status
     requires { ⌜ card .port .message .count ≤ 67 ⌝ }
-    ensures { λ r. ⌜ r ≡ verdict card left ⌝ }
+    ensures { λ r. ⌜ r ≡ judged card left ⌝ }
 {
-    let message = card.port.message;
-    let count = message.count;
-    let room = message.words;
+    let room = card.port.message.words;
+    let count = card.port.message.count;
     judge::judgement(card.size, card.bases, &room[..count], left)
 }
 
@@ -134,8 +135,8 @@ fn act(card: Card) -> Card
 {
     let token = token_of(card);
     let fields = token.fields();
-    let time = time_after(card.time, fields, longer_of(card));
-    let bases = bases_after(card.bases, fields.code, long_of(card));
+    let time = time_after(card.time, fields, first64_of(card));
+    let bases = bases_after(card.bases, fields.code, first32_of(card));
     let message = empty_message(false);
     Card {
         size: card.size,
@@ -163,16 +164,18 @@ fn note(card: Card, status: Status) -> Card
     next
 }
 
-// The block of a WRITE goes into memory.
+// The block of a WRITE goes into memory. Step 3 has found that it lies inside.
 fn store(card: Card, memory: &mut [u16])
-    requires { ⌜ wordPlace (card .bases .«write_base») (fields card .«sub_address») + fields card .length ≤ length (now memory) ⌝ }
-    ensures { λ _. ⌜ now (memory .exit) ≡ stored card (now (memory .entry)) ⌝ }
+    requires { ⌜ (fields card .code ≡ write .code → wordPlace (card .bases .«write_base») (fields card .«sub_address») + fields card .length ≤ length (now memory)) ⌝ }
+    ensures { λ _. ⌜ now (memory .exit) ≡ cond (eqb (fields card .code) (write .code)) (stored card (now (memory .entry))) (now (memory .entry)) ⌝ }
 {
     let fields = token_of(card).fields();
-    let place = judge::word_place(card.bases.write_base, fields.sub_address);
-    let room = card.port.message.words;
-    let end = fields.length as usize + 2;
-    write(memory, place, &room[2..end]);
+    if rules::is_command(fields.code, Name::Write) {
+        let place = judge::word_place(card.bases.write_base, fields.sub_address);
+        let room = card.port.message.words;
+        let end = fields.length as usize + 2;
+        put(memory, place, &room[2..end]);
+    }
 }
 
 // Release: a message of no bits changes nothing, a refused one sets its bits, and an accepted one acts.
@@ -184,14 +187,11 @@ fn end(card: Card, memory: &mut [u16], left: u8) -> Card
     if is_silent(card, left) {
         return with_message(card, empty_message(false));
     }
-    let status = verdict_of(card, left);
+    let status = judged_status(card, left);
     if any_set(status) {
         return note(card, status);
     }
-    if token_of(card).fields().code == rules::WRITE.code {
-        store(card, memory);
-        return act(card);
-    }
+    store(card, memory);
     act(card)
 }
 
@@ -210,18 +210,18 @@ fn release_refusal(card: Card, size: usize, left: u8) -> u8
 
 // Ends the message, with the bits of an unfinished word left over: judges it, and acts where it is accepted. Only here may
 // memory change.
-pub fn release(card: Card, memory: &mut [u16], left: u8) -> Answer
+pub fn release(card: Card, memory: &mut [u16], left: u8) -> CardAfter
     ensures { λ r. ⌜ r ≡ released card (length (now (memory .entry))) left ⌝ }
     ensures { λ _. ⌜ now (memory .exit) ≡ memoryAfter card (now (memory .entry)) left ⌝ }
 {
     let number = release_refusal(card, memory.len(), left);
     if number != refusal::NONE {
-        return Answer {
+        return CardAfter {
             refusal: number,
             card,
         };
     }
-    Answer {
+    CardAfter {
         refusal: refusal::NONE,
         card: end(card, memory, left),
     }

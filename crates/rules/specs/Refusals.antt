@@ -1,4 +1,4 @@
--- The refusal numbers of document 01, by name. No refusal is 0.
+-- The refusal numbers of document 01, by name. 0 stands for no refusal.
 use Prim.Native.Nat.{ℕ}
 
 abbrev pub None : ℕ
@@ -16,11 +16,12 @@ State = 2
 abbrev pub Open : ℕ
 Open = 3
 
--- word or release with none open
+-- word or release with none open; so too next word, and a bit at the pins
 abbrev pub Closed : ℕ
 Closed = 4
 
--- an argument outside its range
+-- code, length, sub-address, module state or left-over bits above the limit; a block not as long as its length (for READ and READBACK: not empty);
+-- an odd number of payload bytes from C
 abbrev pub Argument : ℕ
 Argument = 5
 

@@ -1,6 +1,7 @@
 // The two tables that every other crate takes its numbers from: the eight command rules, and the refusal numbers.
 ghost use mathlib.Core.Path.{_≡_};
-ghost use Rattle.rules.specs.Rules.{ruleOf, messageWords};
+ghost use Prim.Native.Nat.{_<_};
+ghost use Rattle.rules.specs.Rules.{placeOf, rowOf, isCommand, foundGives, ruleOf, messageWords};
 
 pub mod refusal;
 
@@ -12,72 +13,99 @@ pub struct Rule {
     pub last_sub_address: u8,
 }
 
-pub const RESET: Rule = Rule {
-    code: 0x00,
-    least_length: 0,
-    most_length: 0,
-    last_sub_address: 0,
-};
-
-pub const SYNCH: Rule = Rule {
-    code: 0x07,
-    least_length: 4,
-    most_length: 4,
-    last_sub_address: 0,
-};
-
-pub const TICK: Rule = Rule {
-    code: 0x08,
-    least_length: 0,
-    most_length: 0,
-    last_sub_address: 63,
-};
-
-pub const READBACK: Rule = Rule {
-    code: 0x0A,
-    least_length: 2,
-    most_length: 2,
-    last_sub_address: 0,
-};
-
-pub const WRITE: Rule = Rule {
-    code: 0x0D,
-    least_length: 0,
-    most_length: 63,
-    last_sub_address: 255,
-};
-
-pub const READ: Rule = Rule {
-    code: 0x0E,
-    least_length: 0,
-    most_length: 63,
-    last_sub_address: 255,
-};
-
-pub const CONFIG_WRITE: Rule = Rule {
-    code: 0x20,
-    least_length: 2,
-    most_length: 2,
-    last_sub_address: 0,
-};
-
-pub const CONFIG_READ: Rule = Rule {
-    code: 0x21,
-    least_length: 2,
-    most_length: 2,
-    last_sub_address: 0,
-};
+// The rows' commands, by name and in the table's order.
+pub enum Name {
+    Reset,
+    Synch,
+    Tick,
+    Readback,
+    Write,
+    Read,
+    ConfigWrite,
+    ConfigRead,
+}
 
 const TABLE: [Rule; 8] = [
-    RESET,
-    SYNCH,
-    TICK,
-    READBACK,
-    WRITE,
-    READ,
-    CONFIG_WRITE,
-    CONFIG_READ,
+    Rule {
+        code: 0x00,
+        least_length: 0,
+        most_length: 0,
+        last_sub_address: 0,
+    },
+    Rule {
+        code: 0x07,
+        least_length: 4,
+        most_length: 4,
+        last_sub_address: 0,
+    },
+    Rule {
+        code: 0x08,
+        least_length: 0,
+        most_length: 0,
+        last_sub_address: 63,
+    },
+    Rule {
+        code: 0x0A,
+        least_length: 2,
+        most_length: 2,
+        last_sub_address: 0,
+    },
+    Rule {
+        code: 0x0D,
+        least_length: 0,
+        most_length: 63,
+        last_sub_address: 255,
+    },
+    Rule {
+        code: 0x0E,
+        least_length: 0,
+        most_length: 63,
+        last_sub_address: 255,
+    },
+    Rule {
+        code: 0x20,
+        least_length: 2,
+        most_length: 2,
+        last_sub_address: 0,
+    },
+    Rule {
+        code: 0x21,
+        least_length: 2,
+        most_length: 2,
+        last_sub_address: 0,
+    },
 ];
+
+// The place of a command's row in the table.
+fn place_of(name: Name) -> usize
+    ensures { λ r. ⌜ (r ≡ placeOf name) × (r < 8) ⌝ }
+{
+    match name {
+        Name::Reset => 0,
+        Name::Synch => 1,
+        Name::Tick => 2,
+        Name::Readback => 3,
+        Name::Write => 4,
+        Name::Read => 5,
+        Name::ConfigWrite => 6,
+        Name::ConfigRead => 7,
+    }
+}
+
+// A command's row. Whoever speaks of a command, card or controller, takes its numbers from here.
+pub fn row(name: Name) -> Rule
+    ensures { λ r. ⌜ r ≡ rowOf name ⌝ }
+{
+    let place = place_of(name);
+    TABLE[place]
+}
+
+// Whether a code is a command's.
+pub fn is_command(code: u8, name: Name) -> bool
+    ensures { λ r. ⌜ r ≡ isCommand code name ⌝ }
+{
+    code == row(name).code
+}
 
 // What the table has under a code.
 pub enum Found {
@@ -86,7 +114,7 @@ pub enum Found {
 }
 
 pub fn rule_of(code: u8) -> Found
-    ensures { λ r. ⌜ r ≡ ruleOf code ⌝ }
+    ensures { λ r. ⌜ foundGives r ≡ ruleOf code ⌝ }
 {
     let mut i: usize = 0;
     while i < 8 {

@@ -1,4 +1,4 @@
-// The numbers by which operations refuse. No refusal is 0.
+// The numbers by which operations refuse. 0 stands for no refusal.
 
 pub const NONE: u8 = 0;
 

@@ -1,15 +1,20 @@
 -- The bit shifter between pin and card: one bit in and one bit out. `count` bits of the word `taken` have come; `sending` is the word that the card sends meanwhile, whole.
--- A refusal gives its number, the shifter it was given, no bit and no word.
+-- A refusal gives its number, the shifter it was given, the bit 0 and no word.
 use Prim.Native.Nat.{ℕ, _+_, _-_, _*_, _/_, _%_, _^_}
 use mathlib.Core.Bool.{Bool, true, false, cond}
 use lib.Dec.{eqb, ltb}
-use Rattle.crc.specs.Bits.{digit}
+use Rattle.bits.specs.Bits.{digit}
 use Rattle.rules.specs.Refusals as refusal
 use Rattle.shifter.specs.declared.LeftOver.{LeftOver}
 use Rattle.shifter.specs.declared.Shifter.{Shifter}
+use Rattle.shifter.specs.declared.ShifterAfter.{ShifterAfter}
 use Rattle.shifter.specs.declared.Step.{Step}
 
--- select clears it
+-- its count lies outside its range: then each operation refuses it with State
+abbrev pub outOfRange : Shifter → Bool
+outOfRange s = ltb 15 (s .count)
+
+-- no bit has come
 abbrev pub cleared : Shifter
 cleared = record { count = 0; taken = 0; sending = 0 }
 
@@ -17,7 +22,7 @@ cleared = record { count = 0; taken = 0; sending = 0 }
 unfoldable pub current : Shifter → ℕ → ℕ
 current s next = cond (eqb (s .count) 0) next (s .sending)
 
--- the bits taken, as a number, with one more; a bit above 16 falls off
+-- the bits taken, as a number, with one more; a seventeenth bit falls off
 unfoldable pub joined : Shifter → Bool → ℕ
 joined s bit = (s .taken * 2 + digit bit) % 65536
 
@@ -45,14 +50,20 @@ refused s = record {
   answer = record { refusal = refusal.State; bit = false; complete = false; word = 0 };
 }
 
--- one bit in, one bit out: State for a count above 15
+-- one bit in, one bit out: State
 unfoldable pub step : Shifter → ℕ → Bool → Step
 step s next bit =
-    cond (ltb 15 (s .count)) (refused s)
+    cond (outOfRange s) (refused s)
     (cond (eqb (s .count) 15) (completing s next bit) (within s next bit))
 
--- release takes its count as left-over bits: State for a count above 15
+-- select clears it: State
+unfoldable pub clearing : Shifter → ShifterAfter
+clearing s =
+    cond (outOfRange s) (record { refusal = refusal.State; shifter = s })
+    (record { refusal = refusal.None; shifter = cleared })
+
+-- release takes its count as left-over bits: State
 unfoldable pub leftOver : Shifter → LeftOver
 leftOver s =
-    cond (ltb 15 (s .count)) (record { refusal = refusal.State; bits = 0 })
+    cond (outOfRange s) (record { refusal = refusal.State; bits = 0 })
     (record { refusal = refusal.None; bits = s .count })

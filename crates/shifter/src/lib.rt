@@ -1,10 +1,9 @@
 // The bit shifter between pin and card: a bit goes in and a bit goes out, bit 15 of a word first, and each sixteenth
 // bit completes a word. The work is done by value; the functions over references are thin.
 ghost use mathlib.Core.Path.{_≡_};
-ghost use Prim.Native.Nat.{_/_, _%_, _^_, _≤_, _<_};
+ghost use Prim.Native.Nat.{_/_, _%_, _^_, _≤_};
 ghost use lib.Dec.{eqb};
-ghost use Rattle.crc.specs.Bits.{digit};
-ghost use Rattle.shifter.specs.Shifter.{cleared, current, joined, leftOver, step};
+ghost use Rattle.shifter.specs.Shifter.{clearing, current, joined, leftOver, outOfRange, step};
 use rules::refusal;
 
 // `count` bits of the word `taken` have come, and `sending` is the word that goes out meanwhile.
@@ -35,16 +34,23 @@ pub struct Step {
     pub answer: Sent,
 }
 
+// A refusal's number, or 0, and the shifter after.
+pub struct ShifterAfter {
+    pub refusal: u8,
+    pub shifter: Shifter,
+}
+
 // A refusal's number, or 0, and the bits that are no whole word.
 pub struct LeftOver {
     pub refusal: u8,
     pub bits: u8,
 }
 
-fn digit_of(bit: bool) -> u16
-    ensures { λ r. ⌜ (r ≡ digit bit) × (r < 2) ⌝ }
+// Then each operation refuses it with State.
+fn out_of_range(shifter: Shifter) -> bool
+    ensures { λ r. ⌜ r ≡ outOfRange shifter ⌝ }
 {
-    if bit { 1 } else { 0 }
+    15 < shifter.count
 }
 
 // The word being sent. The card's next word is looked at with its first bit only.
@@ -61,7 +67,7 @@ fn current_word(shifter: Shifter, next: u16) -> u16
 fn joined_bits(shifter: Shifter, bit: bool) -> u16
     ensures { λ r. ⌜ r ≡ joined shifter bit ⌝ }
 {
-    shifter.taken % 32768 * 2 + digit_of(bit)
+    shifter.taken % 32768 * 2 + bits::digit_of(bit) as u16
 }
 
 fn bit_of(word: u16, place: u8) -> bool
@@ -75,8 +81,7 @@ fn bit_of(word: u16, place: u8) -> bool
 pub fn shifted(shifter: Shifter, next: u16, bit: bool) -> Step
     ensures { λ r. ⌜ r ≡ step shifter next bit ⌝ }
 {
-    let count = shifter.count;
-    if 15 < count {
+    if out_of_range(shifter) {
         return Step {
             shifter,
             answer: Sent {
@@ -87,6 +92,7 @@ pub fn shifted(shifter: Shifter, next: u16, bit: bool) -> Step
             },
         };
     }
+    let count = shifter.count;
     let sending = current_word(shifter, next);
     let taken = joined_bits(shifter, bit);
     let sent = bit_of(sending, 15 - count);
@@ -116,11 +122,27 @@ pub fn shifted(shifter: Shifter, next: u16, bit: bool) -> Step
     }
 }
 
-// The left-over bits, by value.
+// Select clears it: by value.
+pub fn clearing(old: Shifter) -> ShifterAfter
+    ensures { λ r. ⌜ r ≡ clearing old ⌝ }
+{
+    if out_of_range(old) {
+        return ShifterAfter {
+            refusal: refusal::STATE,
+            shifter: old,
+        };
+    }
+    ShifterAfter {
+        refusal: refusal::NONE,
+        shifter: CLEARED,
+    }
+}
+
+// Release takes its count as left-over bits: by value.
 pub fn left_over(shifter: Shifter) -> LeftOver
     ensures { λ r. ⌜ r ≡ leftOver shifter ⌝ }
 {
-    if 15 < shifter.count {
+    if out_of_range(shifter) {
         return LeftOver {
             refusal: refusal::STATE,
             bits: 0,
@@ -132,6 +154,9 @@ pub fn left_over(shifter: Shifter) -> LeftOver
     }
 }
 
+// ---- thin functions over references. Each has a copy from values to values through it, whose contract says nothing of a
+// reference, so that a caller needs no proof by hand.
+
 // One bit, in place.
 pub fn shift(shifter: &mut Shifter, next: u16, bit: bool) -> Sent
     ensures { λ r. ⌜ (r ≡ step (now (shifter .entry)) next bit .answer) × (now (shifter .exit) ≡ step (now (shifter .entry)) next bit .shifter) ⌝ }
@@ -141,7 +166,6 @@ pub fn shift(shifter: &mut Shifter, next: u16, bit: bool) -> Sent
     done.answer
 }
 
-// From values to values through `shift`: its contract says nothing of a reference, so that a caller needs no proof by hand.
 pub fn shift_copy(before: Shifter, next: u16, bit: bool) -> Step
     ensures { λ r. ⌜ r ≡ step before next bit ⌝ }
 {
@@ -153,20 +177,35 @@ pub fn shift_copy(before: Shifter, next: u16, bit: bool) -> Step
     }
 }
 
-// Select clears it.
-pub fn clear(shifter: &mut Shifter)
-    ensures { λ _. ⌜ now (shifter .exit) ≡ cleared ⌝ }
+// Cleared, in place.
+pub fn clear(shifter: &mut Shifter) -> u8
+    ensures { λ r. ⌜ (r ≡ clearing (now (shifter .entry)) .refusal) × (now (shifter .exit) ≡ clearing (now (shifter .entry)) .shifter) ⌝ }
 {
-    *shifter = Shifter {
-        count: 0,
-        taken: 0,
-        sending: 0,
-    };
+    let done = clearing(*shifter);
+    *shifter = done.shifter;
+    done.refusal
 }
 
-// Release takes its count as left-over bits.
+pub fn clear_copy(before: Shifter) -> ShifterAfter
+    ensures { λ r. ⌜ r ≡ clearing before ⌝ }
+{
+    let mut after = before;
+    let number = clear(&mut after);
+    ShifterAfter {
+        refusal: number,
+        shifter: after,
+    }
+}
+
+// The left-over bits, looked at in place.
 pub fn left(shifter: &Shifter) -> LeftOver
     ensures { λ r. ⌜ r ≡ leftOver (now (shifter .entry)) ⌝ }
 {
     left_over(*shifter)
+}
+
+pub fn left_copy(before: Shifter) -> LeftOver
+    ensures { λ r. ⌜ r ≡ leftOver before ⌝ }
+{
+    left(&before)
 }

@@ -1,13 +1,17 @@
--- Each public operation's contract leaves one answer and one content of the lent buffer. No two cases of the enum give the same.
+-- Each public operation's contract leaves one answer and one content of the lent buffer. Where it is an enum, it is found again from
+-- its number and values, so no two of its cases give the same.
+-- κs are the call's lifetimes, a its arguments, r and s two answers, e and f the parameters at exit.
 -- Assumes nothing.
 use mathlib.Core.Bool.{cond}
 use mathlib.Core.Path.{_≡_, refl, sym, ap, _∙_}
 use denote.Ref.{now}
 use lib.Dec.{eqb}
 use Rattle.rules.specs.Refusals as refusal
-use Rattle.controller.specs.Sure.{Start, startedGives}
+use Rattle.controller.specs.Sure.{Start, startedGives, Said, verdictGives}
 use Rattle.controller.specs.declared.Started.{Started}
 use Rattle.controller.specs.declared.Started.the-variants as started-as
+use Rattle.controller.specs.declared.Verdict.{Verdict}
+use Rattle.controller.specs.declared.Verdict.the-variants as verdict-as
 use Rattle.sure.proofs.ask.Reads as ask
 use Rattle.sure.proofs.give.Reads as give
 use Rattle.sure.proofs.start.Reads as start
@@ -21,8 +25,12 @@ unfolding startedOf
 started-found (started-as.Sure s) = refl
 started-found started-as.Argument = refl
 
+-- two starts that give the same are the same
+pub same-started : (r s : Started) → startedGives r ≡ startedGives s → r ≡ s
+same-started r s h = sym (started-found r) ∙ ap startedOf h ∙ started-found s
+
 pub one-start : (κs : _) (a : _) (r s : _) (e f : _) → start.Post κs a r e → start.Post κs a s f → r ≡ s
-one-start κs a r s e f p q = sym (started-found r) ∙ ap startedOf (p ∙ sym q) ∙ started-found s
+one-start κs a r s e f p q = same-started r s (p ∙ sym q)
 
 pub one-ask : (κs : _) (a : _) (r s : _) (e f : _) → ask.Post κs a r e → ask.Post κs a s f
     → (r ≡ s) × (now (e .1 .1 .0) ≡ now (f .1 .1 .0))
@@ -31,5 +39,22 @@ one-ask κs a r s e f p q = (p .0 ∙ sym (q .0), p .1 ∙ sym (q .1))
 pub one-give : (κs : _) (a : _) (r s : _) (e f : _) → give.Post κs a r e → give.Post κs a s f → r ≡ s
 one-give κs a r s e f p q = p ∙ sym q
 
+verdictIn : Said → Verdict
+verdictIn s =
+    cond (eqb (s .refusal) refusal.State) verdict-as.State
+    (cond (s .done) verdict-as.Done
+    (cond (s .unsure) verdict-as.Unsure verdict-as.NotYet))
+
+verdict-found : (r : Verdict) → verdictIn (verdictGives r) ≡ r
+unfolding verdictIn
+verdict-found verdict-as.NotYet = refl
+verdict-found verdict-as.Done = refl
+verdict-found verdict-as.Unsure = refl
+verdict-found verdict-as.State = refl
+
+-- two verdicts that give the same are the same
+pub same-verdict : (r s : Verdict) → verdictGives r ≡ verdictGives s → r ≡ s
+same-verdict r s h = sym (verdict-found r) ∙ ap verdictIn h ∙ verdict-found s
+
 pub one-verdict : (κs : _) (a : _) (r s : _) (e f : _) → verdict.Post κs a r e → verdict.Post κs a s f → r ≡ s
-one-verdict κs a r s e f p q = p ∙ sym q
+one-verdict κs a r s e f p q = same-verdict r s (p ∙ sym q)

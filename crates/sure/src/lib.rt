@@ -2,10 +2,11 @@
 ghost use mathlib.Core.Path.{_≡_};
 ghost use mathlib.Core.Bool.{true, false, cond, _&&_};
 ghost use lib.Dec.{eqb};
-ghost use lib.ListN.{length};
-ghost use Rattle.token.specs.Command.{commandFits, commandFirst, commandSecond};
-ghost use Rattle.controller.specs.Messages.{messageBuilt, bufferAfter};
-ghost use Rattle.controller.specs.Sure.{commandAt, isAsk, isGive, passes, confirms, turnAfter, writeCommand, withTurn, startedGives, started, outOfState, asked, askedBuffer, given, verdictOf};
+ghost use lib.ListN.{length, getD};
+ghost use Rattle.rules.specs.Rules.{write};
+ghost use Rattle.token.specs.Command.{command, tokenOf, commandFits, commandFirst, commandSecond};
+ghost use Rattle.controller.specs.Builder.{messageBuilt, bufferAfter};
+ghost use Rattle.controller.specs.Sure.{readbackCommand, commandAt, isAsk, isGive, readGood, passes, confirms, turnAfter, writeCommand, withTurn, startedGives, started, outOfRange, asked, askedBuffer, given, verdictGives, verdictOf};
 use builder::build;
 use controller::Asked;
 use controller::Given;
@@ -14,10 +15,13 @@ use controller::Reading;
 use controller::Started;
 use controller::SureWrite;
 use controller::Verdict;
+use reader::payload_of;
 use reader::read_answer;
+use rules::Name;
 use rules::refusal;
 use token::command::Command;
 use token::command::CommandBuilt;
+use token::command::CommandRead;
 use token::command::CommandToken;
 use token::response::any_set;
 
@@ -38,13 +42,19 @@ const DONE: u8 = 6;
 
 const UNSURE: u8 = 7;
 
-const READBACK: Command = Command {
-    code: rules::READBACK.code,
-    length: rules::READBACK.most_length,
-    sub_address: 0,
-};
-
 // ---- any command in the middle
+
+// READBACK, with its code and length from the table.
+fn readback() -> Command
+    ensures { λ r. ⌜ r ≡ readbackCommand ⌝ }
+{
+    let row = rules::row(Name::Readback);
+    Command {
+        code: row.code,
+        length: row.most_length,
+        sub_address: 0,
+    }
+}
 
 // The command of a turn's message.
 fn command_at(middle: Command, turn: u8) -> Command
@@ -53,7 +63,7 @@ fn command_at(middle: Command, turn: u8) -> Command
     if (turn == ASK_COMMAND) | (turn == GIVE_COMMAND) {
         return middle;
     }
-    READBACK
+    readback()
 }
 
 fn is_ask(turn: u8) -> bool
@@ -83,10 +93,22 @@ fn build_turn(middle: Command, turn: u8, block: &[u16], buffer: &mut [u16]) -> M
     )
 }
 
-// Whether two words are the token of a command.
-fn is_token(command: Command, first: u16, second: u16) -> bool
+// The two words that a good answer to READBACK shows as its payload.
+fn shown_token(words: &[u16]) -> CommandToken
+    requires { ⌜ readGood (now words) ≡ true ⌝ }
+    ensures { λ r. ⌜ r ≡ tokenOf (getD (now (words .entry)) 2 0) (getD (now (words .entry)) 3 0) ⌝ }
+{
+    let shown = payload_of(words, readback().length as u32);
+    CommandToken {
+        first: shown[0],
+        second: shown[1],
+    }
+}
+
+// Whether a token is that of a command.
+fn is_token(command: Command, shown: CommandToken) -> bool
     requires { ⌜ commandFits command ≡ true ⌝ }
-    ensures { λ r. ⌜ r ≡ (eqb first (commandFirst command) && eqb second (commandSecond command)) ⌝ }
+    ensures { λ r. ⌜ r ≡ (eqb (shown .first) (commandFirst command) && eqb (shown .second) (commandSecond command)) ⌝ }
 {
     let CommandBuilt::Token(token) = CommandToken::new(
         command.code as u32,
@@ -95,7 +117,7 @@ fn is_token(command: Command, first: u16, second: u16) -> bool
     ) else {
         return false;
     };
-    (first == token.first) & (second == token.second)
+    (shown.first == token.first) & (shown.second == token.second)
 }
 
 // The turn after the first READBACK's words. A refused READBACK brings zeros, whose CRC-16 agrees: so the payload has
@@ -103,14 +125,13 @@ fn is_token(command: Command, first: u16, second: u16) -> bool
 fn after_first(words: &[u16]) -> u8
     ensures { λ r. ⌜ r ≡ cond (passes (now (words .entry))) 2 7 ⌝ }
 {
-    let Reading::Good(_) = read_answer(words, READBACK.length as u32) else {
+    let Reading::Good(_) = read_answer(words, readback().length as u32) else {
         return UNSURE;
     };
-    let first = words[2];
-    let second = words[3];
-    let token = CommandToken { first, second };
-    let good = token.marks().good();
-    if good { ASK_COMMAND } else { UNSURE }
+    let CommandRead::Good(_) = shown_token(words).read() else {
+        return UNSURE;
+    };
+    ASK_COMMAND
 }
 
 // The turn after the last READBACK's words.
@@ -118,10 +139,10 @@ fn after_last(middle: Command, words: &[u16]) -> u8
     requires { ⌜ commandFits middle ≡ true ⌝ }
     ensures { λ r. ⌜ r ≡ cond (confirms middle (now (words .entry))) 6 7 ⌝ }
 {
-    let Reading::Good(fields) = read_answer(words, READBACK.length as u32) else {
+    let Reading::Good(fields) = read_answer(words, readback().length as u32) else {
         return UNSURE;
     };
-    let sure = !any_set(fields.status) & is_token(middle, words[2], words[3]);
+    let sure = !any_set(fields.status) & is_token(middle, shown_token(words));
     if sure { DONE } else { UNSURE }
 }
 
@@ -141,12 +162,14 @@ fn turn_after(middle: Command, turn: u8, words: &[u16]) -> u8
 
 // ---- the sure write
 
+// The WRITE of a state, with its code from the table.
 fn write_command(state: SureWrite) -> Command
-    requires { ⌜ outOfState state ≡ false ⌝ }
+    requires { ⌜ outOfRange state ≡ false ⌝ }
     ensures { λ r. ⌜ r ≡ writeCommand state ⌝ }
 {
+    let row = rules::row(Name::Write);
     Command {
-        code: rules::WRITE.code,
+        code: row.code,
         length: state.length as u8,
         sub_address: state.sub_address as u8,
     }
@@ -162,34 +185,37 @@ fn with_turn(state: SureWrite, turn: u8) -> SureWrite
     }
 }
 
+// Whether a WRITE of so many words at a sub-address has a token.
+fn write_fits(length: u32, sub_address: u32) -> bool
+    ensures { λ r. ⌜ r ≡ commandFits (command (write .code) length «sub_address») ⌝ }
+{
+    (length <= CommandToken::MOST_LENGTH) & (sub_address <= CommandToken::MOST_SUB_ADDRESS)
+}
+
 // Starts a sure write of a block of so many words at a sub-address.
 pub fn start(length: u32, sub_address: u32) -> Started
     ensures { λ r. ⌜ startedGives r ≡ started length «sub_address» ⌝ }
 {
-    if length > CommandToken::MOST_LENGTH {
-        return Started::Argument;
+    if write_fits(length, sub_address) {
+        return Started::Sure(SureWrite {
+            length,
+            sub_address,
+            turn: ASK_FIRST,
+        });
     }
-    if sub_address > CommandToken::MOST_SUB_ADDRESS {
-        return Started::Argument;
-    }
-    Started::Sure(SureWrite {
-        length,
-        sub_address,
-        turn: ASK_FIRST,
-    })
+    Started::Argument
 }
 
-fn out_of_state(state: SureWrite) -> bool
-    ensures { λ r. ⌜ r ≡ outOfState state ⌝ }
+// Whether a part of a state lies outside its range.
+fn out_of_range(state: SureWrite) -> bool
+    ensures { λ r. ⌜ r ≡ outOfRange state ⌝ }
 {
-    (state.length > CommandToken::MOST_LENGTH)
-        | (state.sub_address > CommandToken::MOST_SUB_ADDRESS)
-        | (state.turn > UNSURE)
+    !write_fits(state.length, state.sub_address) | (state.turn > UNSURE)
 }
 
 // Asks for the message of a turn that has one.
 fn ask_in_turn(state: SureWrite, block: &[u16], buffer: &mut [u16]) -> Asked
-    requires { ⌜ (outOfState state ≡ false) × (isAsk (state .turn) ≡ true) ⌝ }
+    requires { ⌜ (outOfRange state ≡ false) × (isAsk (state .turn) ≡ true) ⌝ }
     ensures { λ r. ⌜ r ≡ asked state (now (block .entry)) (length (now (buffer .entry))) ⌝ }
     ensures { λ _. ⌜ now (buffer .exit) ≡ askedBuffer state (now (block .entry)) (now (buffer .entry)) ⌝ }
 {
@@ -213,7 +239,7 @@ pub fn ask(state: SureWrite, block: &[u16], buffer: &mut [u16]) -> Asked
     ensures { λ r. ⌜ r ≡ asked state (now (block .entry)) (length (now (buffer .entry))) ⌝ }
     ensures { λ _. ⌜ now (buffer .exit) ≡ askedBuffer state (now (block .entry)) (now (buffer .entry)) ⌝ }
 {
-    if out_of_state(state) {
+    if out_of_range(state) {
         return Asked {
             refusal: refusal::STATE,
             words: 0,
@@ -232,7 +258,7 @@ pub fn ask(state: SureWrite, block: &[u16], buffer: &mut [u16]) -> Asked
 
 // Gives the words of a turn that has some.
 fn give_in_turn(state: SureWrite, words: &[u16]) -> Given
-    requires { ⌜ (outOfState state ≡ false) × (isGive (state .turn) ≡ true) ⌝ }
+    requires { ⌜ (outOfRange state ≡ false) × (isGive (state .turn) ≡ true) ⌝ }
     ensures { λ r. ⌜ r ≡ given state (now (words .entry)) ⌝ }
 {
     let middle = write_command(state);
@@ -253,7 +279,7 @@ fn give_in_turn(state: SureWrite, words: &[u16]) -> Given
 pub fn give(state: SureWrite, words: &[u16]) -> Given
     ensures { λ r. ⌜ r ≡ given state (now (words .entry)) ⌝ }
 {
-    if out_of_state(state) {
+    if out_of_range(state) {
         return Given {
             refusal: refusal::STATE,
             state,
@@ -268,10 +294,13 @@ pub fn give(state: SureWrite, words: &[u16]) -> Given
     }
 }
 
-// Done or Unsure once a turn said so, and not yet before.
+// Done or Unsure once a turn said so, and not yet before. A state outside its range has none.
 pub fn verdict(state: SureWrite) -> Verdict
-    ensures { λ r. ⌜ r ≡ verdictOf state ⌝ }
+    ensures { λ r. ⌜ verdictGives r ≡ verdictOf state ⌝ }
 {
+    if out_of_range(state) {
+        return Verdict::State;
+    }
     if state.turn == DONE {
         return Verdict::Done;
     }

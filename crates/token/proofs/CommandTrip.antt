@@ -13,28 +13,26 @@ use Rattle.token.specs.declared.command.Command.{Command}
 use Rattle.token.proofs.Good.{both, good-command}
 use Rattle.token.proofs.Second.{peel, upper-kept, check-right, rebuilt}
 
-pub record CommandFits (f : Command) : Type 0 where
-  pub code : f .code ≤ 63
-  pub length : f .length ≤ 63
-  pub sub-address : f .«sub_address» ≤ 255
-
--- the builder's test says so
-pub fields-fit : (f : Command) → commandFits f ≡ true → CommandFits f
-unfolding commandFits
-fields-fit f h =
-    let (front, sub) = both (leb (f .code) 63 && leb (f .length) 63) (leb (f .«sub_address») 255) h in
-    let (code, len) = both (leb (f .code) 63) (leb (f .length) 63) front in
-    record { code = leb-true (f .code) 63 code; length = leb-true (f .length) 63 len; sub-address = leb-true (f .«sub_address») 255 sub }
+-- fields fit a token where the builder's test says so
+abbrev pub CommandFits : Command → Type 0
+CommandFits f = commandFits f ≡ true
 
 module _ (f : Command) (fits : CommandFits f) where
+  pub limits : (f .code ≤ 63) × (f .length ≤ 63) × (f .«sub_address» ≤ 255)
+  unfolding commandFits
+  limits =
+      let (front, sub) = both (leb (f .code) 63 && leb (f .length) 63) (leb (f .«sub_address») 255) fits in
+      let (code, len) = both (leb (f .code) 63) (leb (f .length) 63) front in
+      (leb-true (f .code) 63 code, leb-true (f .length) 63 len, leb-true (f .«sub_address») 255 sub)
+
   -- its words are words
   pub first-below : commandFirst f < 65536
   unfolding commandFirst
-  first-below = omega (arith, fits)
+  first-below = omega (arith, limits)
 
   pub second-below : commandSecond f < 65536
   unfolding commandSecond withCheck commandUpper
-  second-below = omega (arith, fits, crc4-lt (commandFirst f) (commandUpper f))
+  second-below = omega (arith, limits, crc4-lt (commandFirst f) (commandUpper f))
 
   command-empty : commandUpper f % 16 ≡ 0
   unfolding commandUpper
@@ -47,18 +45,18 @@ module _ (f : Command) (fits : CommandFits f) where
   pub command-good : goodCommand (commandFirst f) (commandSecond f) ≡ true
   unfolding goodCommand goodMarks commandMarks commandFirst commandUpper commandSecond
   command-good =
-      let a : at 15 14 (commandFirst f) ≡ 0b01 = omega (arith, fits) in
-      let b : at 15 14 (commandSecond f) ≡ 0b01 = omega (arith, fits, command-upper) in
-      let d : at 7 6 (commandFirst f) ≡ 0b11 = omega (arith, fits) in
-      let e : at 5 4 (commandSecond f) ≡ 0b11 = omega (arith, fits, command-upper) in
+      let a : at 15 14 (commandFirst f) ≡ 0b01 = omega (arith, limits) in
+      let b : at 15 14 (commandSecond f) ≡ 0b01 = omega (arith, limits, command-upper) in
+      let d : at 7 6 (commandFirst f) ≡ 0b11 = omega (arith, limits) in
+      let e : at 5 4 (commandSecond f) ≡ 0b11 = omega (arith, limits, command-upper) in
       rw (eq-eqb _ _ a, eq-eqb _ _ b, eq-eqb _ _ d, eq-eqb _ _ e, check-right (commandFirst f) (commandUpper f) command-empty)
 
   pub command-fields : commandFields (commandFirst f) (commandSecond f) ≡ f
   unfolding commandFields
   command-fields =
-      let a : at 13 8 (commandFirst f) ≡ f .code = unfold commandFirst in omega (arith, fits) in
-      let b : at 5 0 (commandFirst f) ≡ f .length = unfold commandFirst in omega (arith, fits) in
-      let d : at 13 6 (commandSecond f) ≡ f .«sub_address» = unfold commandUpper in omega (arith, fits, command-upper) in
+      let a : at 13 8 (commandFirst f) ≡ f .code = unfold commandFirst in omega (arith, limits) in
+      let b : at 5 0 (commandFirst f) ≡ f .length = unfold commandFirst in omega (arith, limits) in
+      let d : at 13 6 (commandSecond f) ≡ f .«sub_address» = unfold commandUpper in omega (arith, limits, command-upper) in
       rw (a, b, d)
 
   pub command-reads-back : commandRead (commandFirst f) (commandSecond f) ≡ record { good = true; fields = f }

@@ -2,12 +2,12 @@
 -- Assumes nothing.
 use Prim.Native.Nat.{ℕ}
 use native.Mathlib.Omega.{arith}
-use mathlib.Core.Bool.{Bool, true, false, _&&_, false≢true}
+use mathlib.Core.Bool.{Bool, true, false, _&&_, and-eq-true-iff}
 use mathlib.Core.Logic.{_↔_}
 use mathlib.Core.Path.{_≡_, refl}
 use borrow.Author.Tests.{eqb-true}
 use lib.Dec.{eqb}
-use Rattle.crc.specs.Bits.{bits, number}
+use Rattle.bits.specs.Bits.{bits, number}
 use Rattle.crc.specs.Crc.{shift, step, feed, crc, taps4, crc4}
 use Rattle.token.specs.Command.{commandMarks, goodCommand}
 use Rattle.token.specs.Marks.{at, checkRight, goodMarks}
@@ -15,8 +15,7 @@ use Rattle.token.specs.Response.{responseMarks, goodResponse}
 use Rattle.token.specs.declared.marks.Marks.{Marks}
 
 pub both : (a b : Bool) → (a && b) ≡ true → (a ≡ true) × (b ≡ true)
-both true b h = (refl, h)
-both false b h = absurd (false≢true h)
+both a b = and-eq-true-iff a b .0
 
 -- two fields of a token that a mark asks for
 equal-both : (a b x y : ℕ) → (eqb a x && eqb b y) ≡ true → (a ≡ x) × (b ≡ y)

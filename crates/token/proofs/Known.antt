@@ -4,7 +4,7 @@ use Prim.Native.Nat.{ℕ}
 use mathlib.Core.Bool.{true, false}
 use mathlib.Core.List.{List, [], _∷_, map}
 use mathlib.Core.Path.{_≡_, refl}
-use Rattle.crc.specs.Bits.{bits, number, stream}
+use Rattle.bits.specs.Bits.{bits, number, stream}
 use Rattle.crc.specs.Crc.{shift, step, feed, crc, taps4, taps16, crc4, crc16After, crc16}
 use Rattle.rules.specs.Rules.{reset, synch, tick, readback, write, read, configWrite}
 use Rattle.rules.specs.declared.Rule.{Rule}

@@ -6,18 +6,14 @@ use native.Mathlib.Omega.{arith}
 use mathlib.Core.Bool.{Bool, true, false}
 use mathlib.Core.Path.{_≡_, refl, ap, _∙_}
 use borrow.Author.Tests.{eq-eqb}
-use lib.Dec.{eqb, lit<, lit≤}
-use Rattle.crc.specs.Bits.{digit}
-use Rattle.crc.proofs.Digits.{digit-odd}
+use lib.Dec.{eqb, lit<}
+use Rattle.bits.specs.Bits.{digit}
+use Rattle.bits.proofs.Digits.{digit-lt, digit-odd}
 use Rattle.token.specs.Marks.{at, withCheck, goodMarks}
-use Rattle.token.specs.Response.{tokenOf, responseToken, responseFirst, responseUpper, responseSecond, responseMarks, goodResponse, responseFields, responseRead}
+use Rattle.token.specs.Response.{responseTokenOf, responseToken, responseFirst, responseUpper, responseSecond, responseMarks, goodResponse, responseFields, responseRead}
 use Rattle.token.specs.declared.response.Response.{Response}
 use Rattle.token.proofs.Good.{good-response}
 use Rattle.token.proofs.Second.{peel, upper-kept, check-right, rebuilt}
-
-digit-small : (b : Bool) → digit b ≤ 1
-digit-small true = lit≤ tt
-digit-small false = lit≤ tt
 
 -- a bit read back from its digit
 bit-back : (b : Bool) (n : ℕ) → n ≡ digit b → eqb n 1 ≡ b
@@ -25,8 +21,8 @@ bit-back true n e = rw e
 bit-back false n e = rw e
 
 module _ (f : Response) (fits : f .«module_state» ≤ 15) where
-  smalls : (digit (f .stf) ≤ 1) × (digit (f .status .me) ≤ 1) × (digit (f .status .ar) ≤ 1) × (digit (f .status .ic) ≤ 1)
-  smalls = (digit-small (f .stf), digit-small (f .status .me), digit-small (f .status .ar), digit-small (f .status .ic))
+  smalls : (digit (f .stf) < 2) × (digit (f .status .me) < 2) × (digit (f .status .ar) < 2) × (digit (f .status .ic) < 2)
+  smalls = (digit-lt (f .stf), digit-lt (f .status .me), digit-lt (f .status .ar), digit-lt (f .status .ic))
 
   response-upper : responseSecond f / 16 ≡ 0x878
   unfolding responseSecond
@@ -81,5 +77,5 @@ module _ (first second : ℕ) (word : first < 65536) (word₂ : second < 65536) 
       ap (λ (w : ℕ). withCheck w responseUpper) response-first-rebuilt
       ∙ rebuilt first second responseUpper refl (omega (arith, peel second 4 10, peel second 14 2)) (g .check)
 
-  pub response-rebuilt : responseToken (responseFields first second) ≡ tokenOf first second
+  pub response-rebuilt : responseToken (responseFields first second) ≡ responseTokenOf first second
   response-rebuilt = rw (response-first-rebuilt, response-second-rebuilt)

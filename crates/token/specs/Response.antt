@@ -3,7 +3,7 @@
 use Prim.Native.Nat.{ℕ, _+_, _*_, _^_}
 use mathlib.Core.Bool.{Bool, true, false, cond, _&&_, _||_}
 use lib.Dec.{eqb, leb}
-use Rattle.crc.specs.Bits.{digit}
+use Rattle.bits.specs.Bits.{digit}
 use Rattle.rules.specs.Refusals as refusal
 use Rattle.token.specs.declared.response.Response.{Response}
 use Rattle.token.specs.declared.response.Status.{Status}
@@ -29,8 +29,12 @@ anySet s = s .me || s .ar || s .ic
 abbrev pub response : Bool → Status → ℕ → Response
 response stf bits state = record { stf = stf; status = bits; «module_state» = state }
 
-abbrev pub tokenOf : ℕ → ℕ → ResponseToken
-tokenOf first second = record { first = first; second = second }
+-- every field 0
+abbrev pub noFields : Response
+noFields = response false clean 0
+
+abbrev pub responseTokenOf : ℕ → ℕ → ResponseToken
+responseTokenOf first second = record { first = first; second = second }
 
 -- ---- building
 
@@ -48,19 +52,19 @@ unfoldable pub responseSecond : Response → ℕ
 responseSecond f = withCheck (responseFirst f) responseUpper
 
 abbrev pub responseToken : Response → ResponseToken
-responseToken f = tokenOf (responseFirst f) (responseSecond f)
+responseToken f = responseTokenOf (responseFirst f) (responseSecond f)
 
 -- Argument for a module state above 15, else the token with these fields
 unfoldable pub responseBuilt : Response → Built ResponseToken
 responseBuilt f =
     cond (leb (f .«module_state») 15)
     (record { refusal = refusal.None; token = responseToken f })
-    (record { refusal = refusal.Argument; token = tokenOf 0 0 })
+    (record { refusal = refusal.Argument; token = responseTokenOf 0 0 })
 
 -- number and values of each case
 abbrev pub responseBuiltGives : ResponseBuilt → Built ResponseToken
 responseBuiltGives (Token t) = record { refusal = refusal.None; token = t }
-responseBuiltGives Argument = record { refusal = refusal.Argument; token = tokenOf 0 0 }
+responseBuiltGives Argument = record { refusal = refusal.Argument; token = responseTokenOf 0 0 }
 
 -- ---- reading
 
@@ -84,10 +88,10 @@ responseFields first second =
 unfoldable pub responseRead : ℕ → ℕ → Read Response
 responseRead first second = record {
   good = goodResponse first second;
-  fields = cond (goodResponse first second) (responseFields first second) (response false clean 0);
+  fields = cond (goodResponse first second) (responseFields first second) noFields;
 }
 
 -- values of each case
 abbrev pub responseReadGives : ResponseRead → Read Response
 responseReadGives (Good f) = record { good = true; fields = f }
-responseReadGives NotGood = record { good = false; fields = response false clean 0 }
+responseReadGives NotGood = record { good = false; fields = noFields }

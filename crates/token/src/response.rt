@@ -1,11 +1,10 @@
 // The response token.
 ghost use mathlib.Core.Path.{_≡_};
-ghost use Prim.Native.Nat.{_≤_};
-ghost use Rattle.crc.specs.Bits.{digit};
 ghost use Rattle.token.specs.Response.{anySet, responseBuiltGives, responseBuilt, responseMarks, responseFields, responseReadGives, responseRead};
 use crate::marks::Marks;
 use crate::marks::with_check;
 use crate::marks::with_marks;
+use bits::digit_of;
 
 // The three status bits.
 pub struct Status {
@@ -46,15 +45,6 @@ pub fn any_set(status: Status) -> bool
     status.me | status.ar | status.ic
 }
 
-fn digit_of(bit: bool) -> u16
-    ensures { λ r. ⌜ (r ≡ digit bit) × (r ≤ 1) ⌝ }
-{
-    if bit {
-        return 1;
-    }
-    0
-}
-
 impl ResponseToken {
     // Bits 15-14 of both words.
     pub const PREFIX: u16 = 0b10;
@@ -75,10 +65,10 @@ impl ResponseToken {
         }
         let status = fields.status;
         let first = Self::PREFIX * 16384
-            + digit_of(fields.stf) * 8192
-            + digit_of(status.me) * 4096
-            + digit_of(status.ar) * 2048
-            + digit_of(status.ic) * 1024
+            + digit_of(fields.stf) as u16 * 8192
+            + digit_of(status.me) as u16 * 4096
+            + digit_of(status.ar) as u16 * 2048
+            + digit_of(status.ic) as u16 * 1024
             + fields.module_state as u16;
         let upper = Self::PREFIX * 16384 + Self::SPARE_SECOND * 16;
         ResponseBuilt::Token(ResponseToken {

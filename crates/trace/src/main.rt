@@ -3,8 +3,8 @@
 use card::Card;
 use libc::STDIN_FILENO;
 use libc::STDOUT_FILENO;
-use lines::Line;
 use rules::refusal;
+use text::Line;
 
 // Plays a part of the input, and writes its lines.
 fn play(card: Card, memory: &mut [u16], records: &[u8], buffer: &mut [u8]) -> Card {
@@ -26,7 +26,7 @@ fn main() {
         let got = io::read_full(STDIN_FILENO, &mut input);
         state = play(state, &mut memory, &input[..got], &mut buffer);
         // An unfinished last record.
-        if got % 4 != 0 {
+        if got % text::RECORD_BYTES != 0 {
             output::write_line(Line::Refused(refusal::RECORD));
         }
         if got < 16384 {
@@ -34,5 +34,5 @@ fn main() {
         }
         turns -= 1;
     }
-    io::write_all(STDOUT_FILENO, &lines::time_text(state.time));
+    io::write_all(STDOUT_FILENO, &text::time_text(state.time));
 }

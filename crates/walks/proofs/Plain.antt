@@ -4,7 +4,8 @@
 --     owns-it          what x owns, made of that fact
 --     opens-plain, closes-plain    a `&mut` to a plain value is opened, with its machine value written out, and closed at another value
 --     looks-plain      a `&` to a plain value is looked into, with its machine value written out
---     calls-plain      a call of a function whose parameters and result are plain: the context stays as it is, and the result r is known by the callee's clause φ r
+--     calls-lent       a call of a function whose result is plain, and which is handed a reference: the tokens come back, and the result r and the last values ws are known by the callee's clause φ r ws
+--     calls-plain      the same where the parameters are plain too: the context stays as it is, and the result r is known by the callee's clause φ r
 -- Assumes `Given`.
 use mathlib.Core.Path.{_≡_, sym, ap, subst}
 use Prim.Native.Nat.{ℕ}
@@ -81,13 +82,20 @@ module _ {M : Type 1} {𝓤 : URA M} {H : Heap 𝓤} {A : Atoms 𝓤} {K : Type 
     looks-plain t z p copied x b o k = looks t z R (Is R) (shows 𝓤 H A R) (λ y. p .val y ∷ []) (p .tells) copied x b o (λ q′ vs. struct-steps.spelt t R (Is R) (shows 𝓤 H A R) (λ y. p .val y ∷ []) (p .tells) q′ x vs b o $
         move t (1 ∷ []) $ peeks t R (Is R) (shows 𝓤 H A R) x (p .val x ∷ []) (λ is. move t (1 ∷ 0 ∷ []) $ k q′ is))
 
-  -- ---- a call. `said` is what the callee's `post` is: no token, the result, and for some last values the clause, which does not speak of them
+  -- ---- a call. `said` is what the callee's `post` is: the tokens, the result, and for some last values what says them and the clause
   module _ {E : Env 𝓤 H} {C : Calls 𝓤 H} {f : Name} {xs : List Operand} {Λ : Loops 𝓤 H} {q : Post 𝓤 H} {d : Place} where
+    pub calls-lent : K → FmC 𝓤 H (W .laws) C → {rest : Code} (c : Contract 𝓤) → Triple 𝓤 (C f) c → (y : c .Ghost) → Opds K W (raw (c .pre y) ∷ Γ) E xs (c .args y)
+        → {R : RattleType} (p : Plain R) {Ws : Type 0} (tokens : Fml) (lasts : Ws → Fml) (φ : R .Denot → Ws → Type 0)
+        → ((w : Val) → c .post y w ≡ H .⇛ (ex 𝓤 (λ (r : R .Denot). sep 𝓤 (sep 𝓤 (sem 𝓤 H A tokens) (sem 𝓤 H A (R .own r (w ∷ [])))) (ex 𝓤 (λ (ws : Ws). sep 𝓤 (sem 𝓤 H A (lasts ws)) (fact 𝓤 (φ r ws)))))))
+        → ((r : R .Denot) (ws : Ws) → φ r ws → IsA p r → Seq K W (‵ tokens ∷ ‵ (lasts ws) ∷ Γ) (lands C Λ E d (p .val r) rest q)) → Seq K W (raw (c .pre y) ∷ Γ) (runs C Λ E (seq (call f xs d) rest) q)
+    calls-lent t fm {rest} c met y os {R} p {Ws} tokens lasts φ said k = calls-at t fm c met y os (λ w.
+        use1 W (later (some (λ (r : R .Denot). (‵ tokens ⊛ ‵ (R .own r (w ∷ []))) ⊛ some (λ (ws : Ws). ‵ (lasts ws) ⊛ raw (fact 𝓤 (φ r ws)))))) (subst (λ (P : SProp 𝓤). ent 𝓤 (c .post y w) P) (said w) (id⊢ 𝓤 (c .post y w))) $
+        await t tt $ pick t (λ r. split t $ move t (1 ∷ []) $ pick t (λ ws. split t $ move t (1 ∷ []) $ heard t (φ r ws) (λ e. move t (1 ∷ []) $ split t $ move t (1 ∷ []) $ peeks t R (Is R) (shows 𝓤 H A R) r (w ∷ []) (λ is. drop t $
+        subst (λ (u : Val). Seq K W (‵ tokens ∷ ‵ (lasts ws) ∷ Γ) (lands C Λ E d u rest q)) (sym (ap only (p .tells r (w ∷ []) is))) (k r ws e (is-spelt p r (w ∷ []) is)))))))
+
+    -- of a callee whose parameters are plain too: there is no token, and the clause speaks of no last value
     pub calls-plain : K → FmC 𝓤 H (W .laws) C → {rest : Code} (c : Contract 𝓤) → Triple 𝓤 (C f) c → (y : c .Ghost) → ent 𝓤 (emp 𝓤) (c .pre y) → Opds K W (raw (c .pre y) ∷ Γ) E xs (c .args y)
         → {R : RattleType} (p : Plain R) {Ws : Type 0} (lasts : Ws → Fml) (φ : R .Denot → Type 0)
         → ((w : Val) → c .post y w ≡ H .⇛ (ex 𝓤 (λ (r : R .Denot). sep 𝓤 (sep 𝓤 (emp 𝓤) (sem 𝓤 H A (R .own r (w ∷ [])))) (ex 𝓤 (λ (ws : Ws). sep 𝓤 (sem 𝓤 H A (lasts ws)) (fact 𝓤 (φ r)))))))
         → ((r : R .Denot) → φ r → IsA p r → Seq K W Γ (lands C Λ E d (p .val r) rest q)) → Seq K W Γ (runs C Λ E (seq (call f xs d) rest) q)
-    calls-plain t fm {rest} c met y asked os {R} p {Ws} lasts φ said k = use0 W (raw (c .pre y)) asked $ calls-at t fm c met y os (λ w.
-        use1 W (later (some (λ (r : R .Denot). (‵ ftrue ⊛ ‵ (R .own r (w ∷ []))) ⊛ some (λ (ws : Ws). ‵ (lasts ws) ⊛ raw (fact 𝓤 (φ r)))))) (subst (λ (P : SProp 𝓤). ent 𝓤 (c .post y w) P) (said w) (id⊢ 𝓤 (c .post y w))) $
-        await t tt $ pick t (λ r. split t $ move t (1 ∷ []) $ pick t (λ ws. split t $ drop t $ heard t (φ r) (λ e. split t $ drop t $ peeks t R (Is R) (shows 𝓤 H A R) r (w ∷ []) (λ is. drop t $
-        subst (λ (u : Val). Seq K W Γ (lands C Λ E d u rest q)) (sym (ap only (p .tells r (w ∷ []) is))) (k r e (is-spelt p r (w ∷ []) is)))))))
+    calls-plain t fm c met y asked os p lasts φ said k = use0 W (raw (c .pre y)) asked $ calls-lent t fm c met y os p ftrue lasts (λ r _. φ r) said (λ r ws e is. drop t $ drop t $ k r e is)

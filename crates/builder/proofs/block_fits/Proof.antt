@@ -1,7 +1,7 @@
 -- `builder::block_fits` meets its contract: the test says which case holds.
 -- Assumes nothing.
 use borrow.Author.Needs.{needs}
-use Rattle.controller.specs.Messages.{blockFits}
+use Rattle.controller.specs.Builder.{blockFits}
 use Rattle.builder.proofs.block_fits.Statement.{statement}
 use Rattle.builder.proofs.block_fits.Tie as tie
 

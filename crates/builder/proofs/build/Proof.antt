@@ -1,11 +1,11 @@
 -- `builder::build` meets its contract: the token that was built has the fields given, and else they do not fit.
 -- Assumes nothing.
 use mathlib.Core.Bool.{true, false}
-use mathlib.Core.Path.{_≡_, refl, sym, ap, _∙_}
+use mathlib.Core.Path.{_≡_, refl, _∙_}
 use borrow.Author.Needs.{needs}
-use Rattle.token.specs.Command.{command, commandToken, commandFits, commandBuiltGives}
+use Rattle.token.specs.Command.{command, commandToken, commandFits}
 use Rattle.token.specs.declared.command.Command.{Command}
-use Rattle.controller.specs.Messages.{buildRefusal, messageBuilt, bufferAfter}
+use Rattle.controller.specs.Builder.{buildRefusal, messageBuilt, bufferAfter}
 use Rattle.controller.proofs.MessageLaws.{token-built, token-not-built, built-fields}
 use Rattle.builder.proofs.build.Statement.{statement}
 use Rattle.builder.proofs.build.Tie as tie
@@ -13,24 +13,30 @@ use Rattle.builder.proofs.build.Tie as tie
 abbrev asked-for : tie.Start → Command
 asked-for s = command (s .args .code) (s .args .length) (s .args .sub-address)
 
+-- the call's start, where the token is asked for
+abbrev start : tie.After-new → tie.Start
+start p = p .before .before .before
+
 returns : tie.Need-returns
 unfolding messageBuilt bufferAfter buildRefusal
 returns c =
-    let s = c .before .before .before .before .before in
-    let unfit : commandFits (asked-for s) ≡ false =
-    token-not-built (s .args .code) (s .args .length) (s .args .sub-address) (ap commandBuiltGives (sym (c .enum-told .given .1)) ∙ c .before .before .new .ensures) in
+    let p = c .before .before in
+    let f = asked-for (start p) in
+    let unfit : commandFits f ≡ false = token-not-built f (p .new .result) (p .new .ensures) (c .enum-told .given .1) in
     simp unfit (refl, refl)
 
 built : (p : tie.After-token)
-    → (commandFits (asked-for (p .before .before .before .before .before)) ≡ true) × (p .token .given .0 .0 ≡ commandToken (asked-for (p .before .before .before .before .before)))
+    → let f = asked-for (start (p .before .before)) in
+    (commandFits f ≡ true) × (p .token .given .0 .0 ≡ commandToken f)
 built p =
-    let a = p .before .before .before .before .before .args in
-    token-built (a .code) (a .length) (a .sub-address) (p .token .given .0 .0) (ap commandBuiltGives (sym (p .token .given .1)) ∙ p .before .before .new .ensures)
+    let made = p .before .before in
+    token-built (asked-for (start made)) (made .new .result) (p .token .given .0 .0) (made .new .ensures) (p .token .given .1)
 
-same : (p : tie.After-fields) → p .fields .result ≡ asked-for (p .before .before .before .before .before .before .before)
+same : (p : tie.After-fields) → p .fields .result ≡ asked-for (start (p .before .before .before .before))
 same p =
-    let (fits, made) = built (p .before .before) in
-    p .fields .ensures ∙ built-fields (asked-for (p .before .before .before .before .before .before .before)) (p .before .before .token .given .0 .0) fits made
+    let token = p .before .before in
+    let (fits, made) = built token in
+    p .fields .ensures ∙ built-fields (asked-for (start (token .before .before))) (token .token .given .0 .0) fits made
 
 build-from-token-requires : tie.Need-build-from-token-requires
 build-from-token-requires c κs =

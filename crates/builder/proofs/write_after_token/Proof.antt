@@ -6,7 +6,8 @@ use mathlib.Core.List.{List, _++_}
 use mathlib.Core.Path.{ap, _∙_}
 use borrow.Author.Needs.{needs}
 use lib.ListN.{take}
-use Rattle.controller.specs.Messages.{payload, over}
+use Rattle.controller.specs.Builder.{payload}
+use Rattle.bits.specs.Buffers.{over}
 use Rattle.controller.proofs.MessageLaws.{tail-lent, tail-back}
 use Rattle.builder.proofs.write_after_token.Statement.{statement}
 use Rattle.builder.proofs.write_after_token.Tie as tie

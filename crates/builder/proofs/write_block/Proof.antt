@@ -14,15 +14,19 @@ write-words-requires c κs =
 
 slice-write-part : tie.Need-slice-write-part
 slice-write-part c =
-    let s = c .before .before .before .before .before .before .before .before in
-    omega (arith, block-length (s .args .block .now) (c .before .before .before .before .before .if1 .taken), c .before .before .before .write-words .kept .0)
+    let written = c .before .before .before in
+    let some = written .before .before .if1 .taken in
+    let s = written .before .before .before .before .before in
+    omega (arith, block-length (s .args .block .now) some, written .write-words .kept .0)
 
 returns : tie.Need-returns
 returns c =
-    let s = c .before .before .before .before .before .before .before .before in
-    let some = c .before .before .before .before .before .if1 .taken in
-    rw (c .before .before .before .write-words .ensures, c .check-words .ensures, block-some (s .args .block .now) some)
-    (over-more (s .args .block .now) (crc16 (s .args .block .now)) (s .args .part .now) (omega (arith, block-length (s .args .block .now) some)))
+    let written = c .before .before .before in
+    let some = written .before .before .if1 .taken in
+    let s = written .before .before .before .before .before in
+    let block = s .args .block .now in
+    rw (written .write-words .ensures, c .check-words .ensures, block-some block some)
+    (over-more block (crc16 block) (s .args .part .now) (omega (arith, block-length block some)))
 
 returns-2 : tie.Need-returns-2
 returns-2 c = rw (block-none (c .before .before .before .args .block .now) (c .if1 .left))

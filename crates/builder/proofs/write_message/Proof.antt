@@ -3,7 +3,7 @@
 use mathlib.Core.Path.{_∙_}
 use borrow.Author.Needs.{needs}
 use Rattle.token.specs.Command.{commandFirst, commandSecond}
-use Rattle.controller.specs.Messages.{payload, message}
+use Rattle.controller.specs.Builder.{payload, message}
 use Rattle.controller.proofs.MessageLaws.{message-over}
 use Rattle.builder.proofs.write_message.Statement.{statement}
 use Rattle.builder.proofs.write_message.Tie as tie
@@ -11,9 +11,11 @@ use Rattle.builder.proofs.write_message.Tie as tie
 returns : tie.Need-returns
 unfolding message
 returns c =
-    let a = c .before .before .before .before .before .before .before .before .before .before .args in
+    let token = c .before .before .before .before .before .before in
+    let s = token .before .before .before .before in
+    let a = s .args in
     c .before .before .write-after-token .ensures
-    ∙ rw (c .before .before .before .before .before .before .write-token .ensures, c .before .before .before .before .before .before .before .before .before .before .pre .0)
+    ∙ rw (token .write-token .ensures, s .pre .0)
     (message-over (commandFirst (a .fields)) (commandSecond (a .fields)) (payload (a .fields) (a .block .now)) (a .buffer .now))
 
 pub write-message-spec : {M : Type 1} → statement M

@@ -6,7 +6,7 @@ use mathlib.Core.Path.{_≡_, refl}
 use borrow.Author.Needs.{needs}
 use lib.ListN.{length, take, getD, set, length-set}
 use lib.Seq.{take-all}
-use Rattle.controller.specs.Messages.{over}
+use Rattle.bits.specs.Buffers.{over}
 use Rattle.controller.proofs.MessageLaws.{over-next}
 use Rattle.builder.proofs.write_words.Statement.{statement}
 use Rattle.builder.proofs.write_words.Tie as tie

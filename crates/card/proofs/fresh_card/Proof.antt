@@ -1,7 +1,7 @@
 -- `card::fresh_card` meets its contract: the RESET token is the one that the definition computes.
 -- Assumes nothing.
 use Rattle.card.specs.State.{fresh}
-use Rattle.crc.specs.Bits.{bits, number}
+use Rattle.bits.specs.Bits.{bits, number}
 use Rattle.crc.specs.Crc.{shift, step, feed, crc, taps4, crc4}
 use Rattle.token.specs.Command.{commandFirst, commandUpper, commandSecond}
 use Rattle.token.specs.Marks.{withCheck}

@@ -5,7 +5,7 @@ use native.Mathlib.Omega.{arith}
 use mathlib.Core.Path.{_≡_, refl}
 use borrow.Author.Needs.{needs}
 use lib.ListN.{length, drop}
-use Rattle.crc.specs.Bits.{wordsOf}
+use Rattle.bits.specs.Bits.{wordsOf}
 use Rattle.crc.specs.Crc.{crc16, crc16After}
 use Rattle.crc.proofs.Words.{pairs-more, pairs-none}
 use Rattle.crc.proofs.check_bytes.Statement.{statement}

@@ -1,23 +1,36 @@
--- `crc::token_check` meets its contract: the CRC-4 of word 1 is taken up again by the upper bits of word 2.
+-- `crc::token_check` meets its contract: what it computes is linear, and gives the check of each single bit.
 -- Assumes nothing.
-use Prim.Native.Nat.{_/_}
-use lib.Dec.{lit≤}
+use Prim.Native.Nat.{ℕ, _*_, _%_, _^_}
+use native.Mathlib.Omega.{arith}
+use mathlib.Core.Path.{ap, _∙_}
 use borrow.Author.Needs.{needs}
-use Rattle.crc.specs.Bits.{bits}
-use Rattle.crc.specs.Crc.{taps4, crc4}
-use Rattle.crc.proofs.Register.{crc-append, crc-lt}
+use Rattle.crc.proofs.Maps.{folded, token-map, tokenMap}
 use Rattle.crc.proofs.token_check.Statement.{statement}
 use Rattle.crc.proofs.token_check.Tie as tie
 
-crc4-bits-requires-2 : tie.Need-crc4-bits-requires-2
-unfolding taps4 bits
-crc4-bits-requires-2 c κs = (rw (c .crc4-bits .ensures) (crc-lt taps4 _ _), lit≤ tt)
-
 returns : tie.Need-returns
-unfolding crc4
+unfolding folded tokenMap
 returns c =
-    let a = c .before .before .args in
-    cc (crc-append taps4 0 (bits 16 (a .first)) (bits 12 (a .second / 16)))
+    let a = c .before .before .before .before .before .args in
+    ap (λ (v : ℕ). v % 16)
+    (c .fold5 .ensures
+    ∙ ap (folded 4 1) (c .before .fold4 .ensures
+    ∙ ap (folded 4 1) (c .before .before .fold3 .ensures
+    ∙ ap (λ (v : ℕ). folded 8 2 (v * 2 ^ 4 % 2 ^ 64)) (c .before .before .before .fold2 .ensures
+    ∙ ap (folded 8 2) (c .before .before .before .before .fold .ensures)))))
+    ∙ token-map (a .first) (a .second) (omega arith) (omega arith)
 
 pub token-check-spec : {M : Type 1} → statement M
-token-check-spec = tie.close (tie.spec (λ c κs. search needs) crc4-bits-requires-2 returns)
+token-check-spec =
+    tie.close
+    (tie.spec
+    (λ c. search needs)
+    (λ c. search needs)
+    (λ c. search needs)
+    (λ c κs. search needs)
+    (λ c κs. search needs)
+    (λ c κs. search needs)
+    (λ c κs. search needs)
+    (λ c κs. search needs)
+    (λ c. search needs)
+    returns)

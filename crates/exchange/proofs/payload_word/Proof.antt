@@ -1,47 +1,51 @@
--- `exchange::payload_word` meets its contract: the tests say which case holds.
+-- `exchange::payload_word` meets its contract: the words are those of each payload.
 -- Assumes nothing.
-use Rattle.token.specs.declared.command.Command.{Command}
-use Rattle.token.specs.Response.{anySet}
-use Rattle.card.proofs.Laws.{heard-status, heard-fields}
-use Rattle.card.specs.Sending.{word1, word2, fields, heardStatus, passedWord, payloadWord}
 use mathlib.Core.Path.{_≡_, sym, ap, _∙_}
-use mathlib.Core.Bool.{true, false}
-use Rattle.judge.proofs.Laws.{token-passed, read-inside}
+use borrow.Author.Needs.{needs}
+use Rattle.card.specs.Exchange.{payloadWord}
+use Rattle.exchange.specs.declared.Payload.{Payload}
+use Rattle.exchange.proofs.Payloads.{wordOf, payload-word, read-sent}
 use Rattle.exchange.proofs.payload_word.Statement.{statement}
 use Rattle.exchange.proofs.payload_word.Tie as tie
 
-returns : tie.Need-returns
-unfolding payloadWord
-returns c =
-    let card = c .before .before .before .before .before .args .card in
-    let fails : anySet (heardStatus card) ≡ true = sym (c .before .any-set .ensures ∙ ap anySet (c .before .before .token-status .ensures ∙ heard-status card (c .before .before .before .token-of .ensures))) ∙ c .if1 .taken in
-    rw fails
+-- the word behind the token, by the payload's case
+known : (s : tie.Start) {p : Payload} →
+    let a = s .args in
+    a .payload ≡ p → wordOf p (a .card) (a .memory .now) (a .k) ≡ payloadWord (a .card) (a .memory .now) (a .k)
+known s e =
+    let a = s .args in
+    ap (λ (p : Payload). wordOf p (a .card) (a .memory .now) (a .k)) (sym e ∙ s .pre .0)
+    ∙ sym (payload-word (a .card) (a .memory .now) (a .k) (s .pre .1))
 
-passed-word-requires : tie.Need-passed-word-requires
-passed-word-requires c κs =
-    let a = c .before .before .before .before .before .before .args in
-    let heard = c .before .before .before .before .token-of .ensures in
-    let passes : anySet (heardStatus (a .card)) ≡ false = sym (c .before .before .any-set .ensures ∙ ap anySet (c .before .before .before .token-status .ensures ∙ heard-status (a .card) (c .before .before .before .before .token-of .ensures))) ∙ c .before .if1 .left in
-    let same : c .fields .result ≡ fields (a .card) = c .fields .ensures ∙ heard-fields (a .card) heard in
-    rw (same, c .before .before .before .before .before .before .pre)
-    (read-inside (a .card .size) (a .card .bases) (fields (a .card)) (token-passed (a .card .size) (a .card .bases) (word1 (a .card)) (word2 (a .card)) passes .three))
+read-word-requires : tie.Need-read-word-requires
+read-word-requires c κs =
+    let s = c .before .before .before .before .before .before in
+    let read = c .before .before .before .payload .given in
+    rw (c .before .word-place .ensures, s .pre .2) (read-sent (s .args .card) (read .0 .0) (sym (s .pre .0) ∙ read .1) .1)
+
+returns : tie.Need-returns
+returns c =
+    let s = c .before .before .before .before .before .before .before in
+    let read = c .before .before .before .before .payload .given in
+    rw (c .read-word .ensures, c .before .before .word-place .ensures) (known s (read .1))
 
 returns-2 : tie.Need-returns-2
-unfolding payloadWord
-returns-2 c =
-    let card = c .before .before .before .before .before .before .before .args .card in
-    let passes : anySet (heardStatus card) ≡ false = sym (c .before .before .before .any-set .ensures ∙ ap anySet (c .before .before .before .before .token-status .ensures ∙ heard-status card (c .before .before .before .before .before .token-of .ensures))) ∙ c .before .before .if1 .left in
-    rw passes
-    (c .passed-word .ensures ∙ ap (λ (f : Command). passedWord card (c .before .before .before .before .before .before .before .args .memory .now) f (c .before .before .before .before .before .before .before .args .k)) (c .before .fields .ensures ∙ heard-fields card (c .before .before .before .before .before .token-of .ensures)))
+returns-2 c = c .readback-word .ensures ∙ known (c .before .before .before .before) (c .before .enum-told .given .1)
+
+returns-3 : tie.Need-returns-3
+returns-3 c = known (c .before .before .before) (c .enum-told2 .given .1)
 
 pub payload-word-spec : {M : Type 1} → statement M
 payload-word-spec =
     tie.close
     (tie.spec
+    (λ c. search needs)
     (λ c κs. tt)
+    (λ c. search needs)
+    read-word-requires
+    (λ c. search needs)
     (λ c κs. tt)
-    (λ c κs. tt)
+    (λ c. search needs)
     returns
-    (λ c κs. tt)
-    passed-word-requires
-    returns-2)
+    returns-2
+    returns-3)

@@ -1,6 +1,6 @@
 -- `exchange::read_word` meets its contract: the tests say which case holds.
 -- Assumes nothing.
-use Rattle.card.specs.Sending.{readWord}
+use Rattle.card.specs.Exchange.{readWord}
 use Rattle.rules.proofs.Tests.{tests}
 use borrow.Author.Tests.{le-ltb}
 use borrow.Author.Needs.{needs}

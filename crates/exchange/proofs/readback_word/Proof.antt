@@ -1,6 +1,6 @@
 -- `exchange::readback_word` meets its contract: the tests say which case holds.
 -- Assumes nothing.
-use Rattle.card.specs.Sending.{readbackWord}
+use Rattle.card.specs.Exchange.{readbackWord}
 use Rattle.rules.proofs.Tests.{tests}
 use borrow.Author.Needs.{needs}
 use Rattle.exchange.proofs.readback_word.Statement.{statement}

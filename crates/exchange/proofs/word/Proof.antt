@@ -1,6 +1,6 @@
 -- `exchange::word` meets its contract: the tests say which case holds.
 -- Assumes nothing.
-use Rattle.card.specs.Card.{exchanged}
+use Rattle.card.specs.Exchange.{exchanged}
 use Rattle.rules.proofs.Tests.{tests}
 use Rattle.card.proofs.Laws.{lent, in-range}
 use mathlib.Core.Path.{sym, _∙_}
@@ -15,13 +15,13 @@ returns c = search (tests, ← c .before .word-refusal .ensures)
 
 word-sent-requires : tie.Need-word-sent-requires
 word-sent-requires c κs =
-    let a = c .before .before .before .args in
-    let l = lent (a .card) (length (a .memory .now)) (sym (c .before .word-refusal .ensures) ∙ c .if1 .left) in
-    (l .same, in-range (a .card) (l .ranged) .module-state)
+    let a = c .before .before .before .before .args in
+    let l = lent (a .card) (length (a .memory .now)) (sym (c .before .before .word-refusal .ensures) ∙ c .before .if1 .left) in
+    (c .payload-of .ensures, l .same, in-range (a .card) (l .ranged) .module-state)
 
 returns-2 : tie.Need-returns-2
 unfolding exchanged
-returns-2 c = search (tests, ← c .before .before .before .before .word-refusal .ensures, c .with-message .ensures, c .before .took .ensures, c .before .before .word-sent .ensures)
+returns-2 c = search (tests, ← c .before .before .before .before .word-refusal .ensures, c .took .ensures, c .before .word-sent .ensures)
 
 pub word-spec : {M : Type 1} → statement M
-word-spec = tie.close (tie.spec (λ c κs. search needs) returns word-sent-requires (λ c κs. search needs) (λ c κs. search needs) returns-2)
+word-spec = tie.close (tie.spec (λ c κs. search needs) returns (λ c κs. tt) word-sent-requires (λ c κs. search needs) returns-2)

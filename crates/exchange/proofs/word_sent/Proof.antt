@@ -1,8 +1,9 @@
 -- `exchange::word_sent` meets its contract: the tests say which case holds.
 -- Assumes nothing.
-use Rattle.card.specs.Sending.{nextWord}
-use Rattle.rules.proofs.Tests.{tests}
+use native.Mathlib.Omega.{arith}
 use borrow.Author.Needs.{needs}
+use Rattle.rules.proofs.Tests.{tests}
+use Rattle.card.specs.Exchange.{nextWord}
 use Rattle.exchange.proofs.word_sent.Statement.{statement}
 use Rattle.exchange.proofs.word_sent.Tie as tie
 

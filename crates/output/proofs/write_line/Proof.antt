@@ -1,7 +1,7 @@
 -- `output::write_line` meets its contract: a line's text counts its bytes.
 -- Assumes nothing.
 use borrow.Author.Needs.{needs}
-use Rattle.lines.specs.Lines.{textOf}
+use Rattle.text.specs.Text.{textOf}
 use Rattle.output.proofs.write_line.Statement.{statement}
 use Rattle.output.proofs.write_line.Tie as tie
 

@@ -8,7 +8,7 @@ use lib.Dec.{eqb}
 use Rattle.rules.specs.Refusals as refusal
 use Rattle.shifter.specs.Shifter.{leftOver}
 use Rattle.shifter.specs.declared.LeftOver.{LeftOver}
-use Rattle.pins.specs.Pins.{answer, shifterRefusal, releasedPins, memoryAfterPins}
+use Rattle.pins.specs.Pins.{givesPins, shifterRefusal, releasedPins, memoryAfterPins}
 use Rattle.pins.proofs.release.Statement.{statement}
 use Rattle.pins.proofs.release.Tie as tie
 
@@ -16,16 +16,16 @@ returns : tie.Need-returns
 unfolding shifterRefusal releasedPins memoryAfterPins
 returns c =
     let p = c .before .before .before .before .args .pins in
-    let left = c .before .before .left-over in
+    let left = c .before .before .left-copy in
     let outside : eqb (leftOver (p .shifter) .refusal) refusal.None ≡ false
     = ne-eqb _ _ (λ e. c .if1 .taken (ap (λ (l : LeftOver). l .refusal) (left .ensures) ∙ e)) in
-    rw outside (ap (λ (l : LeftOver). answer (l .refusal) p) (left .ensures), refl)
+    rw outside (ap (λ (l : LeftOver). givesPins (l .refusal) p) (left .ensures), refl)
 
 returns-2 : tie.Need-returns-2
 unfolding shifterRefusal releasedPins memoryAfterPins
 returns-2 c =
     let p = c .before .before .before .before .before .before .before .before .before .before .args .pins in
-    let left = c .before .before .before .before .before .before .before .before .left-over in
+    let left = c .before .before .before .before .before .before .before .before .left-copy in
     let within : eqb (leftOver (p .shifter) .refusal) refusal.None ≡ true
     = eq-eqb _ _ (sym (ap (λ (l : LeftOver). l .refusal) (left .ensures)) ∙ c .before .before .before .before .before .before .if1 .left) in
     rw (within, ← left .ensures) (simp (c .before .before .before .before .release .ensures .0), c .before .before .before .before .release .ensures .1)

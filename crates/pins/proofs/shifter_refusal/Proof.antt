@@ -6,7 +6,7 @@ use Rattle.pins.proofs.shifter_refusal.Tie as tie
 
 returns : tie.Need-returns
 unfolding shifterRefusal
-returns c = simp (c .left-over .ensures)
+returns c = simp (c .left-copy .ensures)
 
 pub shifter-refusal-spec : {M : Type 1} → statement M
 shifter-refusal-spec = tie.close (tie.spec (λ c κs. tt) returns)

@@ -2,7 +2,7 @@
 -- Assumes nothing.
 use borrow.Author.Needs.{needs}
 use Rattle.rules.proofs.Tests.{tests}
-use Rattle.controller.specs.Answers.{readRefusal, answerRead}
+use Rattle.controller.specs.Reader.{readRefusal, answerRead}
 use Rattle.reader.proofs.read_answer.Statement.{statement}
 use Rattle.reader.proofs.read_answer.Tie as tie
 

@@ -2,14 +2,14 @@
 -- Assumes nothing.
 use Prim.Native.Nat.{_-_, _≤_}
 use native.Mathlib.Omega.{arith}
-use mathlib.Core.Bool.{true, false}
-use mathlib.Core.Path.{_≡_, sym, ap, _∙_}
+use mathlib.Core.Bool.{true}
+use mathlib.Core.Path.{_≡_, sym}
 use borrow.Author.Needs.{needs}
 use lib.ListN.{length, take, drop}
 use Rattle.crc.specs.Crc.{agrees}
 use Rattle.rules.specs.Refusals as refusal
-use Rattle.token.specs.Response.{responseReadGives}
-use Rattle.controller.specs.Answers.{noFields, payloadGood, answerRead}
+use Rattle.token.specs.declared.response.ResponseRead.the-variants.{Good, NotGood}
+use Rattle.controller.specs.Reader.{payloadGood, answerRead}
 use Rattle.controller.proofs.AnswerLaws.{read-passed, token-read}
 use Rattle.controller.proofs.MessageLaws.{tail-lent, message-long}
 use Rattle.reader.proofs.read_words.Statement.{statement}
@@ -30,8 +30,9 @@ shared-slice-read-second c = omega (arith, two-long (c .before .before .before))
 returns : tie.Need-returns
 unfolding answerRead payloadGood
 returns c =
-    let s = c .before .before .before .before .before .before in
-    let (wrong, none) = token-read (s .args .words .now) false noFields (ap responseReadGives (sym (c .enum-told .given .1)) ∙ c .before .before .read .ensures) in
+    let p = c .before .before in
+    let s = p .before .before .before .before in
+    let (wrong, none) = token-read (s .args .words .now) (p .read .result) NotGood (p .read .ensures) (c .enum-told .given .1) in
     simp (s .pre, wrong, none)
 
 sub-agrees : tie.Need-sub-agrees
@@ -40,6 +41,7 @@ sub-agrees c = two-long (c .before .before .before .before .before .before .befo
 part-agrees-start : tie.Need-part-agrees-start
 part-agrees-start c = omega (arith, two-long (c .before .before .before .before .before .before .before))
 
+-- the answer by its token's fields and its check
 judged : (p : tie.After-agrees)
     → let s = p .before .before .before .before .before .before .before .before .before in
     answerRead (s .args .n) (s .args .words .now)
@@ -48,9 +50,9 @@ unfolding answerRead payloadGood
 judged p =
     let s = p .before .before .before .before .before .before .before .before .before in
     let words = s .args .words .now in
-    let (right, same) =
-    token-read words true (p .before .before .before .fields .given .0 .0)
-    (ap responseReadGives (sym (p .before .before .before .fields .given .1)) ∙ p .before .before .before .before .before .read .ensures) in
+    let told = p .before .before .before .fields .given in
+    let token = p .before .before .before .before .before .read in
+    let (right, same) = token-read words (token .result) (Good (told .0 .0)) (token .ensures) (told .1) in
     let rest : take (length words - 2) (drop 2 words) ≡ drop 2 words = tail-lent 2 words (two-long s) in
     let check : agrees (s .args .n) (drop 2 words) ≡ p .agrees .result = rw rest at (sym (p .agrees .ensures)) in
     simp (s .pre, right, same, check)

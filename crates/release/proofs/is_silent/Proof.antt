@@ -1,7 +1,7 @@
 -- `release::is_silent` meets its contract: the code is the definition.
 -- Assumes nothing.
 use mathlib.Core.Path.{refl}
-use Rattle.card.specs.Acting.{silent}
+use Rattle.card.specs.Release.{silent}
 use Rattle.release.proofs.is_silent.Statement.{statement}
 use Rattle.release.proofs.is_silent.Tie as tie
 

@@ -1,6 +1,6 @@
 -- `release::note` meets its contract: the code is the definition.
 -- Assumes nothing.
-use Rattle.card.specs.Acting.{noted}
+use Rattle.card.specs.Release.{noted}
 use Rattle.release.proofs.note.Statement.{statement}
 use Rattle.release.proofs.note.Tie as tie
 

@@ -1,6 +1,6 @@
 -- `release::release_refusal` meets its contract: the tests say which case holds.
 -- Assumes nothing.
-use Rattle.card.specs.Card.{releaseRefusal}
+use Rattle.card.specs.Release.{releaseRefusal}
 use Rattle.rules.proofs.Tests.{tests}
 use Rattle.release.proofs.release_refusal.Statement.{statement}
 use Rattle.release.proofs.release_refusal.Tie as tie

@@ -1,9 +1,9 @@
 -- `replay::replay` meets its contract: the tests on the kind say which case holds.
 -- Assumes nothing.
-use Rattle.replay.specs.Replay.{replayed, replayedMemory}
 use mathlib.Core.Path.{refl}
-use borrow.Author.Tests.{ne-eqb}
 use borrow.Author.Needs.{needs}
+use borrow.Author.Tests.{ne-eqb}
+use Rattle.replay.specs.Replay.{replayed, replayedMemory}
 use Rattle.replay.proofs.replay.Statement.{statement}
 use Rattle.replay.proofs.replay.Tie as tie
 
@@ -25,7 +25,13 @@ returns-4 c = rw (c .before .if4 .taken) (c .on-module .ensures, refl)
 
 returns-5 : tie.Need-returns-5
 unfolding replayed replayedMemory
-returns-5 c = simp (ne-eqb _ _ (c .before .before .before .if1 .left), ne-eqb _ _ (c .before .before .if2 .left), ne-eqb _ _ (c .before .if3 .left), ne-eqb _ _ (c .if4 .left)) (refl, refl)
+returns-5 c =
+    let third = c .before in
+    let second = third .before in
+    let first = second .before in
+    simp
+    (ne-eqb _ _ (first .if1 .left), ne-eqb _ _ (second .if2 .left), ne-eqb _ _ (third .if3 .left), ne-eqb _ _ (c .if4 .left))
+    (refl, refl)
 
 pub replay-spec : {M : Type 1} → statement M
 replay-spec =

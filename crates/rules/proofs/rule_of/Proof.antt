@@ -11,13 +11,12 @@ use lib.Dec.{eqb}
 use lib.ListN.{drop, getD, length}
 use lib.Seq.{drop-cons}
 use Rattle.rules.specs.declared.Rule.{Rule}
-use Rattle.rules.specs.declared.Found.the-variants.{Row}
-use Rattle.rules.specs.Rules.{row, table, rowIn, ruleOf}
+use Rattle.rules.specs.Rules.{row, table, found, rowIn, ruleOf}
 use Rattle.rules.proofs.rule_of.Statement.{statement}
 use Rattle.rules.proofs.rule_of.Tie as tie
 
 next-row : (l : List Rule) (i code : ℕ) (d : Rule) → i < length l →
-    rowIn (drop i l) code ≡ cond (eqb (getD l i d .code) code) (Row (getD l i d)) (rowIn (drop (i + 1) l) code)
+    rowIn (drop i l) code ≡ cond (eqb (getD l i d .code) code) (found (getD l i d)) (rowIn (drop (i + 1) l) code)
 unfolding rowIn
 next-row l i code d h = rw (add-one, drop-cons l i d h)
 

@@ -10,4 +10,4 @@ unfolding joined
 returns c = search needs
 
 pub joined-bits-spec : {M : Type 1} → statement M
-joined-bits-spec = tie.close (tie.spec (λ c. search needs) (λ c κs. search needs) (λ c. search needs) returns)
+joined-bits-spec = tie.close (tie.spec (λ c. search needs) (λ c κs. tt) (λ c. search needs) (λ c. search needs) returns)

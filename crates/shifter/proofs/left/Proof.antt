@@ -1,8 +1,6 @@
 -- `shifter::left` meets its contract: a walk of its MIR, by hand. The borrow is looked into, the shifter behind it is copied out and passed to `left_over`, and the borrow is shut again. All that the proof knows of `left_over` is that it meets its contract.
 -- Assumes nothing.
-use Rattle.walks.proofs.Walk.{_≡_, refl, ℕ, List, [], _∷_, URA, named, Val, vptr, SProp, ent, emp, via, fst∗, GName, Lft, Share, ftrue, flft, fres, fshr-bor, Memory, Routine, Heap, WpFn, Tables, Atoms, Fun, givenOf, tables, tablesOf, Given, ‵, _⊛_, ⋆}
-use Rattle.walks.proofs.Walk.{_$_, _∵_, !, qed, by, move, keep, drop, split, join, fsplit, fsplit3, fjoin, fjoin3, feqI, suffices, frame, done, look, look-raw, init, forget, stop, hop, from, load, of-opd, and-then, no-more, assigns, land, returns, enter, alloc1, alloc0, params1, pass1, pass0, free1, free0}
-use Rattle.walks.proofs.Walk.{fmOf, owns, partAt, RefT, ShrRef, ptr-vals, shr-tells, plain, shuts, nothing, onEntry, tripleOf, Contract, Triple, lasts, cited, says, Stays, stay-none-ref, walkOf, goes-none-ref, Walks, ends-at, walked, yes}
+use Rattle.walks.proofs.Walk.{_≡_, refl, ℕ, List, [], _∷_, URA, named, Val, vptr, SProp, ent, emp, via, fst∗, GName, Lft, Share, ftrue, flft, fres, fshr-bor, Memory, Routine, Heap, WpFn, Tables, Atoms, Fun, givenOf, tables, tablesOf, Given, ‵, _⊛_, ⋆, _$_, _∵_, !, qed, by, move, keep, drop, split, join, fsplit, fsplit3, fjoin, fjoin3, feqI, suffices, frame, done, look, look-raw, init, forget, stop, hop, from, load, of-opd, and-then, no-more, assigns, land, returns, enter, alloc1, alloc0, params1, pass1, pass0, free1, free0, fmOf, owns, partAt, RefT, ShrRef, ptr-vals, shr-tells, plain, shuts, nothing, onEntry, tripleOf, Contract, Triple, lasts, cited, says, Stays, stay-none-ref, walkOf, goes-none-ref, Walks, ends-at, walked, yes}
 use Rattle.walks.proofs.Plain.{IsA, owns-it, looks-plain, calls-plain}
 use Rattle.walks.proofs.Proved.{by-walk}
 use denote.Struct.Laws as laws

@@ -1,8 +1,6 @@
 -- `shifter::shift` meets its contract: a walk of its MIR, by hand. The borrow is opened, the shifter behind it is copied out and passed to `shifted`, the shifter after is stored over the old one, and the borrow is closed at it. All that the proof knows of `shifted` is that it meets its contract.
 -- Assumes nothing.
-use Rattle.walks.proofs.Walk.{_≡_, refl, ap, ℕ, _<_, _^_, Bool, List, [], _∷_, URA, named, w16, Val, vptr, SProp, ent, emp, via, fst∗, GName, Lft, Share, ftrue, flft, fobs, fbor, Memory, Routine, Heap, WpFn, Tables, Atoms, Fun, givenOf, tables, tablesOf, Given, ‵, _⊛_, ⋆}
-use Rattle.walks.proofs.Walk.{_$_, _∵_, !, qed, by, move, keep, drop, split, join, fsplit, fsplit3, fjoin, fjoin3, feqI, suffices, frame, done, look, look-raw, init, store-raw, forget, stop, hop, fld, from, load, of-opd, and-then, no-more, assigns, land, returns, enter, alloc1, alloc0, params1}
-use Rattle.walks.proofs.Walk.{pass1, pass0, free1, free0, whole, sub, look-in, Body, fmOf, owns, mem, bool, u16, bool-vals, bool-tells, uint-vals, uint-tells, RefT, MutRef, ptr-vals, mut-tells, plain, nothing, onEntry, tripleOf, Contract, Triple, lasts, cited, says, Stays, stay-ref, stay-none, walkOf, goes-none, goes-ref, Walks, ends-at, walked, yes}
+use Rattle.walks.proofs.Walk.{_≡_, refl, ap, ℕ, _<_, _^_, Bool, List, [], _∷_, URA, named, w16, Val, vptr, SProp, ent, emp, via, fst∗, GName, Lft, Share, ftrue, flft, fobs, fbor, Memory, Routine, Heap, WpFn, Tables, Atoms, Fun, givenOf, tables, tablesOf, Given, ‵, _⊛_, ⋆, _$_, _∵_, !, qed, by, move, keep, drop, split, join, fsplit, fsplit3, fjoin, fjoin3, feqI, suffices, frame, done, look, look-raw, init, store-raw, forget, stop, hop, fld, from, load, of-opd, and-then, no-more, assigns, land, returns, enter, alloc1, alloc0, params1, pass1, pass0, free1, free0, whole, sub, look-in, Body, fmOf, owns, mem, bool, u16, bool-vals, bool-tells, uint-vals, uint-tells, RefT, MutRef, ptr-vals, mut-tells, plain, nothing, onEntry, tripleOf, Contract, Triple, lasts, cited, says, Stays, stay-ref, stay-none, walkOf, goes-none, goes-ref, Walks, ends-at, walked, yes}
 use Rattle.walks.proofs.Plain.{IsA, bool-plain, owns-it, opens-plain, closes-plain, calls-plain}
 use Rattle.walks.proofs.Proved.{by-walk}
 use Rattle.shifter.specs.Shifter.{step}

@@ -1,19 +1,13 @@
 -- `shifter::shift_copy` meets its contract: a walk of its MIR, by hand. A local is lent to `shift` by `&mut`, for a lifetime that is made for the call, and has its last value once the lifetime is ended. All that the proof knows of `shift` is that it meets its contract.
 -- Assumes nothing.
-use Rattle.walks.proofs.Walk.{_≡_, refl, ap, ℕ, _<_, _^_, Bool, [], _∷_, List, URA, fullShare, named, w16, Val, vptr, SProp, ent, sep, emp, via, fst∗, id⊢, GName, ftrue, fat, flft, flent, Memory, Routine, Heap, WpFn, Tables, Atoms, sem, Fun, fact, givenOf, tables, tablesOf, Given, ‵, raw}
-use Rattle.walks.proofs.Walk.{_⊛_, some, later, _$_, _∵_, !, qed, by, move, keep, drop, use1, use2, use3, split, join, pick, rewrite, fsplit, fjoin, suffices, frame, await, done, look, init, forget, stop, from, load, addr, of-opd, and-then, no-more, assigns, land, returns, enter, alloc1, alloc0, params1, pass1, pass0}
-use Rattle.walks.proofs.Walk.{free1, free0, agg, lft-new, lft-end, Body, fmOf, owns, Is, shows, mem, cellAt, bool-vals, bool-tells, uint-vals, uint-tells, bool, u16, RefT, MutRef, lends-ref, ref-back, only, peeks, heard, nothing, onEntry, tripleOf, Contract, Triple, calls-at, ensured, lasts, cited, says, Stays, stay-none, walkOf, goes-none, Walks, ends-at, walked, yes}
-use Rattle.walks.proofs.Locals.{lies-in, lies-out}
-use Rattle.walks.proofs.Plain.{IsA, is-spelt, bool-plain, owns-it}
+use Rattle.walks.proofs.Walk.{_≡_, refl, ℕ, _<_, _^_, Bool, [], _∷_, List, URA, fullShare, named, w16, Val, vptr, SProp, ent, sep, emp, via, fst∗, GName, fsep, ftrue, flft, Memory, Routine, Heap, WpFn, Tables, Atoms, sem, Fun, givenOf, tables, tablesOf, Given, ‵, raw, _$_, _∵_, !, qed, by, move, keep, use2, join, fsplit, fjoin, suffices, frame, done, look, init, forget, stop, from, load, addr, of-opd, and-then, no-more, assigns, land, returns, enter, alloc1, alloc0, params1, pass1, pass0, free1, free0, agg, fmOf, owns, bool-vals, bool-tells, uint-vals, uint-tells, bool, u16, MutRef, nothing, onEntry, tripleOf, Contract, Triple, lasts, cited, says, Stays, stay-none, walkOf, goes-none, Walks, ends-at, walked, yes}
+use Rattle.walks.proofs.Locals.{loan, lends-mut, ends-mut}
+use Rattle.walks.proofs.Plain.{IsA, bool-plain, owns-it, calls-lent}
 use Rattle.walks.proofs.Proved.{by-walk}
 use Rattle.shifter.specs.Shifter.{step}
-use Rattle.shifter.specs.declared.Sent.{Sent}
 use Rattle.shifter.specs.declared.Shifter.{Shifter}
 use Rattle.shifter.specs.declared.Step.{Step}
 use Rattle.shifter.proofs.Shifter as T
-use Rattle.shifter.proofs.Shifter.Laws as T′
-use Rattle.shifter.proofs.Sent as E
-use Rattle.shifter.proofs.Sent.Laws as E′
 use Rattle.shifter.proofs.Types.{state, answer, both, word, given-back, both-is}
 use Rattle.shifter.proofs.shift as shift
 use Rattle.shifter.proofs.shift.Symbol as shift-def
@@ -42,22 +36,14 @@ module _ {M : Type 1} (𝓤 : URA M) (H : Heap 𝓤) (A : Atoms 𝓤) (W : Given
     abbrev Post : Val → SProp 𝓤
     Post = walkOf 𝓤 H A f.ended stayed (f.clauses 𝓤 H A at-mem run) .post ((tt, tt, tt, x, at), tt)
 
-    -- the loan of the local at l, under the name γ
-    abbrev loan : ℕ → GName → RefT Shifter
-    loan l γ = record { ptr = (l, 0); name = γ; now = h }
-
-    -- what `shift`'s triple binds outside, at the loan for the lifetime ν
+    -- what `shift`'s triple binds outside, at the loan of the local at l for the lifetime ν
     abbrev to-shift : ℕ → ℕ → GName → Shift .Ghost
-    to-shift ν l γ = (((ν ∷ [], tt), (fullShare, tt), tt, (loan l γ, (next, (bit, tt))), (vptr l 0 ∷ [], (word .val next ∷ [], (bool-plain .val bit ∷ [], tt)))), tt)
+    to-shift ν l γ = (((ν ∷ [], tt), (fullShare, tt), tt, (loan h l γ, (next, (bit, tt))), (vptr l 0 ∷ [], (word .val next ∷ [], (bool-plain .val bit ∷ [], tt)))), tt)
 
-    goes-shift : (ν l : ℕ) (γ : GName) → ent 𝓤 (sep 𝓤 (A .lft (ν ∷ []) fullShare) (sem 𝓤 H A (MutRef (named 0) (ν ∷ []) T.the-row .own (loan l γ) (vptr l 0 ∷ [])))) (Shift .pre (to-shift ν l γ))
+    goes-shift : (ν l : ℕ) (γ : GName) → ent 𝓤 (sep 𝓤 (A .lft (ν ∷ []) fullShare) (sem 𝓤 H A (MutRef (named 0) (ν ∷ []) T.the-row .own (loan h l γ) (vptr l 0 ∷ [])))) (Shift .pre (to-shift ν l γ))
     goes-shift ν l γ =
-        qed W (‵ (flft (ν ∷ []) fullShare) ∷ ‵ (MutRef (named 0) (ν ∷ []) T.the-row .own (loan l γ) (vptr l 0 ∷ [])) ∷ []) ∵
+        qed W (‵ (flft (ν ∷ []) fullShare) ∷ ‵ (MutRef (named 0) (ν ∷ []) T.the-row .own (loan h l γ) (vptr l 0 ∷ [])) ∷ []) ∵
         nothing ! $ owns-it ! bool-plain bit refl $ fjoin ! $ owns-it ! word next (refl, fits) $ fjoin ! $ move ! (2 ∷ 0 ∷ []) $ fjoin ! $ nothing ! $ move ! (2 ∷ 0 ∷ []) $ join ! $ join ! $ frame ! $ done !
-
-    -- what `shift` ensures
-    abbrev Said : Sent → Shifter → Type 0
-    Said r s = (r ≡ step h next bit .answer) × (s ≡ step h next bit .shifter)
 
     exits : (r : Step) → IsA both r → r ≡ step h next bit → ent 𝓤 (emp 𝓤) (Post (both .val r))
     exits r r-is e =
@@ -72,33 +58,21 @@ module _ {M : Type 1} (𝓤 : URA M) (H : Heap 𝓤) (A : Atoms 𝓤) (W : Given
           pass1 ! (init ! 12 refl (state .lawful 𝓤 H A W .typed h _ h-is .0)) $ pass1 ! (init ! 10 refl (tt, record { fits = fits })) $ pass1 ! (init ! 8 refl (tt, tt)) $ pass0 ! $
           assigns ! (of-opd ! (load ! (from ! (stop !)) (look ! 12 refl))) (from ! (stop !)) (init ! 6 refl (state .lawful 𝓤 H A W .typed h _ h-is .0)) $
           assigns ! (addr ! (from ! (stop !))) (from ! (stop !)) (init ! 2 refl (tt, tt)) $
-          -- a lifetime is made, and the local is lent for it
-          move ! (6 ∷ []) $ use1 W (‵ (cellAt fullShare (T.the-row .mir) (state .val h ∷ []) l₄ 0)) (W .laws .at-raw fullShare T′.mir l₄ 0 (state .val h)) $
-          owns-it ! state h h-is $ move ! (1 ∷ 0 ∷ []) $ lies-in ! T.the-row h (state .val h ∷ []) l₄ 0 $
-          lft-new ! tt (λ ν. move ! (1 ∷ []) $
-          use1 W (later (some (λ (γ : GName). ‵ (MutRef (named 0) (ν ∷ []) T.the-row .own (loan l₄ γ) (vptr l₄ 0 ∷ [])) ⊛ ‵ (flent (ν ∷ []) (Body (mem T.the-row) l₄ 0 γ))))) (lends-ref 𝓤 H A W T.the-row (named 0) (ν ∷ []) h l₄ 0) $
-          await ! tt $ pick ! (λ γ. split ! $
-          -- [the reference; the lender's part; the token; _7; …; _6; …; _5; …; what frees _4; _3; …; _2; …; _1; …; room for _0; …]
-          move ! (2 ∷ 0 ∷ []) $ use2 W (raw (Shift .pre (to-shift ν l₄ γ))) (goes-shift ν l₄ γ) $
-          calls-at ! (fmOf 𝓤 H (W .laws) 𝓣) Shift known (to-shift ν l₄ γ) (and-then ! (load ! (from ! (stop !)) (look ! 4 refl)) (and-then ! (load ! (from ! (stop !)) (look ! 11 refl)) (and-then ! (load ! (from ! (stop !)) (look ! 9 refl)) (no-more !)))) (λ w.
-          use1 W (later (some (λ (r : Sent). ((‵ (flft (ν ∷ []) fullShare) ⊛ ‵ ftrue) ⊛ ‵ (E.the-row .own r (w ∷ []))) ⊛ raw (ensured 𝓤 H A shift.ended (shift.clauses 𝓤 H A at-mem run) (ν ∷ [], tt) (loan l₄ γ, (next, (bit, tt))) tt r)))) (id⊢ 𝓤 _) $ await ! tt $ pick ! (λ r.
-          -- what `shift` ensures, at some last shifter
-          split ! $ move ! (1 ∷ []) $ use1 W (some (λ (ws : Shifter × (Unit {0} × (Unit {0} × Unit {0}))). ‵ (lasts shift.ended (ν ∷ [], tt) (loan l₄ γ, (next, (bit, tt))) ws) ⊛ raw (fact 𝓤 (Said r (ws .0))))) (id⊢ 𝓤 _) $ pick ! (λ ws.
-          split ! $ move ! (1 ∷ []) $ heard ! (Said r (ws .0)) (λ e. fsplit ! $
-          move ! (2 ∷ []) $ split ! $ move ! (1 ∷ []) $ peeks ! E.the-row (Is E.the-row) (shows 𝓤 H A E.the-row) r (w ∷ []) (λ is. drop ! $
-          -- [the token; the last shifter; …; the lender's part; _7; …; _6; …; _5; …; what frees _4; _3; …; _2; …; _1; …; room for _0; …]
-          land ! (from ! (stop !)) (init ! 8 refl (answer .lawful 𝓤 H A W .typed r _ is .0)) $ rewrite ! 8 (λ (u : Val). ‵ (fat fullShare E′.mir l₅ 0 u)) (ap only (answer .tells r _ is)) refl $
-          -- the lifetime is ended, and the local is back at its last value
-          split ! $ lft-end ! tt $ move ! (0 ∷ 4 ∷ 2 ∷ []) $ use3 W (later (‵ (mem T.the-row .lies (ws .0) l₄ 0))) (ref-back 𝓤 H A W T.the-row (ν ∷ []) γ (ws .0) l₄ 0) $ await ! tt $
-          lies-out ! T.the-row (Is T.the-row) (shows 𝓤 H A T.the-row) (λ y. state .val y ∷ []) (state .tells) (ws .0) l₄ 0 (λ after-is. move ! (1 ∷ []) $ drop ! $
-          use1 W (‵ (fat fullShare T′.mir l₄ 0 (state .val (ws .0)))) (W .laws .raw-at fullShare T′.mir l₄ 0 (state .val (ws .0))) $
-          -- [_4; true; …; _7; …; _6; …; _5; …; what frees _4; _3; …; _2; …; _1; …; room for _0; …]
+          -- the local is lent
+          move ! (6 ∷ []) $ lends-mut ! tt state refl (named 0) h h-is l₄ (λ ν γ. use2 W (raw (Shift .pre (to-shift ν l₄ γ))) (goes-shift ν l₄ γ) $
+          -- [what `shift` asks; the lender's part; _7; …; _6; …; _5; …; what frees _4; _3; …; _2; …; _1; …; room for _0; …]
+          calls-lent ! (fmOf 𝓤 H (W .laws) 𝓣) Shift known (to-shift ν l₄ γ) (and-then ! (load ! (from ! (stop !)) (look ! 4 refl)) (and-then ! (load ! (from ! (stop !)) (look ! 11 refl)) (and-then ! (load ! (from ! (stop !)) (look ! 9 refl)) (no-more !))))
+          answer (fsep (flft (ν ∷ []) fullShare) ftrue) (lasts shift.ended (ν ∷ [], tt) (loan h l₄ γ, (next, (bit, tt)))) (λ r ws. (r ≡ step h next bit .answer) × (ws .0 ≡ step h next bit .shifter)) (λ w. refl) (λ r ws e is.
+          land ! (from ! (stop !)) (init ! 7 refl (answer .lawful 𝓤 H A W .typed r _ is .0)) $
+          -- the local is back at its last value
+          fsplit ! $ move ! (2 ∷ []) $ fsplit ! $ move ! (2 ∷ 4 ∷ 0 ∷ []) $ ends-mut ! tt state refl (ws .0) l₄ (λ after-is.
+          -- [_4; …; …; _7; …; _6; …; _5; …; what frees _4; _3; …; _2; …; _1; …; room for _0; …]
           assigns ! (of-opd ! (load ! (from ! (stop !)) (look ! 0 refl))) (from ! (stop !)) (init ! 3 refl (state .lawful 𝓤 H A W .typed (ws .0) _ after-is .0)) $
           assigns ! (agg ! (and-then ! (load ! (from ! (stop !)) (look ! 3 refl)) (and-then ! (load ! (from ! (stop !)) (look ! 7 refl)) (no-more !)))) (from ! (stop !))
-          (init ! 16 refl (both .lawful 𝓤 H A W .typed (given-back (ws .0) r) _ (both-is (ws .0) r after-is (is-spelt answer r (w ∷ []) is)) .0)) $
+          (init ! 16 refl (both .lawful 𝓤 H A W .typed (given-back (ws .0) r) _ (both-is (ws .0) r after-is is) .0)) $
           returns ! (look ! 16 refl) $ forget ! 0 refl $ forget ! 3 refl $ forget ! 5 refl $ forget ! 7 refl $ forget ! 10 refl $ forget ! 12 refl $ forget ! 14 refl $ forget ! 16 refl $
           move ! (16 ∷ 17 ∷ 14 ∷ 15 ∷ 12 ∷ 13 ∷ 10 ∷ 11 ∷ 0 ∷ 9 ∷ 7 ∷ 8 ∷ 5 ∷ 6 ∷ 3 ∷ 4 ∷ []) $ free1 ! $ free1 ! $ free1 ! $ free1 ! $ free1 ! $ free1 ! $ free1 ! $ free1 ! $ free0 ! $
-          keep ! [] $ by ! (exits (given-back (ws .0) r) (both-is (ws .0) r after-is (is-spelt answer r (w ∷ []) is)) (λ i. record { shifter = e .1 i; answer = e .0 i }))))))))))))))))))
+          keep ! [] $ by ! (exits (given-back (ws .0) r) (both-is (ws .0) r after-is is) (λ i. record { shifter = e .1 i; answer = e .0 i })))))))))))))
 
   shift-copy-walks : (𝓣 : Tables 𝓤 H) → Triple 𝓤 (𝓣 .C #shifter·shift) Shift → Walks 𝓤 H A f.ended stayed (WpFn 𝓤 H (𝓣 .C) (𝓣 .Λ) code.function) (f.clauses 𝓤 H A at-mem run)
   shift-copy-walks 𝓣 known = walked 𝓤 H A f.ended stayed (f.clauses 𝓤 H A at-mem run) (WpFn 𝓤 H (𝓣 .C) (𝓣 .Λ) code.function) (λ κs. (λ y. state .val y ∷ [], (uint-vals w16, (bool-vals, tt)))) (λ κs. (state .tells, (uint-tells w16, (bool-tells, tt))))

@@ -3,60 +3,54 @@
 use native.Mathlib.Omega.{arith}
 use mathlib.Core.Path.{_≡_, sym, ap, _∙_}
 use borrow.Author.Needs.{needs}
-use borrow.Author.Tests.{ne-eqb}
 use lib.ListN.{length}
-use Rattle.token.specs.declared.command.Command.{Command}
-use Rattle.controller.specs.Messages.{buildRefusal, messageBuilt}
-use Rattle.controller.specs.Sure.{commandAt, writeCommand, askRefusal, asked, askedBuffer}
+use Rattle.controller.specs.Builder.{messageBuilt}
+use Rattle.controller.specs.Sure.{commandAt, writeCommand, askedBuffer}
 use Rattle.controller.specs.declared.MessageBuilt.{MessageBuilt}
-use Rattle.sure.proofs.TurnLaws.{in-state, ask-refusal, asked-buffer}
+use Rattle.sure.proofs.TurnLaws.{in-state, asked-refused, asked-taken, asked-buffer}
 use Rattle.sure.proofs.ask_in_turn.Statement.{statement}
 use Rattle.sure.proofs.ask_in_turn.Tie as tie
 
--- where a message was built, the call's start and the command of its turn
+-- where the message was built: the call's start, and what the builder gives for the command of its turn
 abbrev start : tie.After-build-turn → tie.Start
 start p = p .before .before .before .before .before
 
-abbrev sent : tie.Start → Command
-sent s = commandAt (writeCommand (s .args .state)) (s .args .state .turn)
+abbrev built : tie.Start → MessageBuilt
+built s =
+    messageBuilt (commandAt (writeCommand (s .args .state)) (s .args .state .turn)) (s .args .block .now) (length (s .args .buffer .now))
 
-made : (p : tie.After-build-turn)
-    → p .build-turn .result ≡ messageBuilt (sent (start p)) (start p .args .block .now) (length (start p .args .buffer .now))
+made : (p : tie.After-build-turn) → p .build-turn .result ≡ built (start p)
 made p = rw (p .before .before .write-command .ensures) at (p .build-turn .ensures .0)
 
--- its refusal is the number that asking is refused by
-number : (p : tie.After-build-turn)
-    → p .build-turn .result .refusal ≡ askRefusal (start p .args .state) (length (start p .args .block .now)) (length (start p .args .buffer .now))
-unfolding messageBuilt
-number p =
-    let s = start p in
-    ap (λ (l : MessageBuilt). l .refusal) (made p) ∙ sym (ask-refusal (s .args .state) _ _ (s .pre .0) (s .pre .1))
+number : (p : tie.After-build-turn) → p .build-turn .result .refusal ≡ built (start p) .refusal
+number p = ap (λ (b : MessageBuilt). b .refusal) (made p)
 
 buffer : (p : tie.After-build-turn)
     → p .build-turn .last .1 .1 .1 .0 ≡ askedBuffer (start p .args .state) (start p .args .block .now) (start p .args .buffer .now)
 buffer p =
     let s = start p in
     rw (p .before .before .write-command .ensures) at (p .build-turn .ensures .1)
-    ∙ sym (asked-buffer (s .args .state) (s .args .block .now) (s .args .buffer .now) (s .pre .0) (s .pre .1))
+    ∙ sym (asked-buffer (s .args .state) (s .pre .0) (s .pre .1) (s .args .block .now) (s .args .buffer .now))
 
 returns : tie.Need-returns
-unfolding asked
 returns c =
     let p = c .before .before .before .before in
-    (rw (← number p, ne-eqb _ _ (c .if1 .taken)), buffer p)
+    let s = start p in
+    let refused = asked-refused (s .args .state) (s .pre .0) (s .pre .1) (s .args .block .now) _ (λ none. c .if1 .taken (number p ∙ none)) in
+    (rw (made p) (sym refused), buffer p)
 
 add-with-turn : tie.Need-add-with-turn
 add-with-turn c =
-    let s = c .before .before .before .before .before .before .before .before .before .before in
-    omega (arith, in-state (s .args .state) (s .pre .0))
+    let s = start (c .before .before .before .before .before) in
+    omega (arith, in-state (s .args .state) (s .pre .0) .turn)
 
 returns-2 : tie.Need-returns-2
-unfolding asked messageBuilt
 returns-2 c =
     let p = c .before .before .before .before .before .before in
     let s = start p in
-    let none : buildRefusal (sent s) (length (s .args .block .now)) (length (s .args .buffer .now)) ≡ 0 = sym (ap (λ (l : MessageBuilt). l .refusal) (made p)) ∙ c .before .before .if1 .left in
-    (simp (← number p, made p, none, c .with-turn .ensures), buffer p)
+    let none = sym (number p) ∙ c .before .before .if1 .left in
+    let taken = asked-taken (s .args .state) (s .pre .0) (s .pre .1) (s .args .block .now) _ none in
+    (rw (made p, c .with-turn .ensures) (sym taken), buffer p)
 
 pub ask-in-turn-spec : {M : Type 1} → statement M
 ask-in-turn-spec =

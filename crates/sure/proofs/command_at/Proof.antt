@@ -10,7 +10,7 @@ returns c = simp (c .if1 .taken)
 
 returns-2 : tie.Need-returns-2
 unfolding commandAt
-returns-2 c = simp (c .if1 .left)
+returns-2 c = simp (c .before .if1 .left) (c .readback .ensures)
 
 pub command-at-spec : {M : Type 1} → statement M
-command-at-spec = tie.close (tie.spec returns returns-2)
+command-at-spec = tie.close (tie.spec returns (λ c κs. tt) returns-2)

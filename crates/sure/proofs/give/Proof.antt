@@ -3,7 +3,7 @@
 use mathlib.Core.Bool.{true, false}
 use mathlib.Core.Path.{_≡_, sym, _∙_}
 use borrow.Author.Needs.{needs}
-use Rattle.controller.specs.Sure.{isGive, outOfState, giveRefusal, given}
+use Rattle.controller.specs.Sure.{isGive, outOfRange, giveRefusal, given}
 use Rattle.sure.proofs.give.Statement.{statement}
 use Rattle.sure.proofs.give.Tie as tie
 
@@ -11,7 +11,7 @@ returns : tie.Need-returns
 unfolding given giveRefusal
 returns c =
     let s = c .before .before .before .args .state in
-    let out : outOfState s ≡ true = sym (c .before .out-of-state .ensures) ∙ c .if1 .taken in
+    let out : outOfRange s ≡ true = sym (c .before .out-of-range .ensures) ∙ c .if1 .taken in
     simp out
 
 give-in-turn-requires : tie.Need-give-in-turn-requires
@@ -21,7 +21,7 @@ returns-3 : tie.Need-returns-3
 unfolding given giveRefusal
 returns-3 c =
     let s = c .before .before .before .before .before .args .state in
-    let inside : outOfState s ≡ false = sym (c .before .before .before .out-of-state .ensures) ∙ c .before .before .if1 .left in
+    let inside : outOfRange s ≡ false = sym (c .before .before .before .out-of-range .ensures) ∙ c .before .before .if1 .left in
     let early : isGive (s .turn) ≡ false = sym (c .before .is-give .ensures) ∙ c .if2 .left in
     simp (inside, early)
 

@@ -1,39 +1,47 @@
--- `sure::give_in_turn` meets its contract: in turn, the count says which case holds.
+-- `sure::give_in_turn` meets its contract: in turn, the number of words says which case holds.
 -- Assumes nothing.
-use Rattle.token.specs.declared.command.Command.{Command}
 use mathlib.Core.Path.{_≡_, sym, ap, _∙_}
 use borrow.Author.Needs.{needs}
-use borrow.Author.Tests.{eq-eqb, ne-eqb}
-use lib.ListN.{length}
 use Rattle.rules.specs.Rules.{messageWords}
-use Rattle.controller.specs.Sure.{commandAt, turnAfter, writeCommand, giveRefusal, given}
-use Rattle.sure.proofs.TurnLaws.{write-fits}
+use Rattle.token.specs.declared.command.Command.{Command}
+use Rattle.controller.specs.Sure.{commandAt, turnAfter, writeCommand}
+use Rattle.controller.specs.declared.SureWrite.{SureWrite}
+use Rattle.sure.proofs.TurnLaws.{in-state, given-miscounted, given-taken}
 use Rattle.sure.proofs.give_in_turn.Statement.{statement}
 use Rattle.sure.proofs.give_in_turn.Tie as tie
 
+-- where the words are counted: the call's start, and its state
+abbrev start : tie.After-message-words → tie.Start
+start p = p .before .before .before .before
+
+abbrev state : tie.After-message-words → SureWrite
+state p = start p .args .state
+
+-- the command of its turn, whose message has so many words
+sent : (p : tie.After-message-words) → p .before .command-at .result ≡ commandAt (writeCommand (state p)) (state p .turn)
+sent p = rw (p .before .before .write-command .ensures) at (p .before .command-at .ensures)
+
+asked-for : (p : tie.After-message-words) → p .message-words .result ≡ messageWords (commandAt (writeCommand (state p)) (state p .turn) .length)
+asked-for p = p .message-words .ensures ∙ ap (λ (f : Command). messageWords (f .length)) (sent p)
+
 returns : tie.Need-returns
-unfolding given giveRefusal
 returns c =
-    let s = c .before .before .before .before .before .args .state in
-    let words = c .before .before .before .before .before .args .words .now in
-    let f = commandAt (writeCommand s) (s .turn) in
-    let many : c .before .message-words .result ≡ messageWords (f .length)
-    = c .before .message-words .ensures ∙ ap (λ (g : Command). messageWords (g .length)) (c .before .before .command-at .ensures ∙ ap (λ (g : Command). commandAt g (s .turn)) (c .before .before .before .write-command .ensures)) in
-    simp (c .before .before .before .before .before .pre .0, c .before .before .before .before .before .pre .1, ne-eqb (length words) (messageWords (f .length)) (λ e. c .if1 .taken (e ∙ sym many)))
+    let p = c .before in
+    let s = start p in
+    sym (given-miscounted (state p) (s .args .words .now) (s .pre .0) (s .pre .1) (λ same. c .if1 .taken (same ∙ sym (asked-for p))))
 
 turn-after-requires : tie.Need-turn-after-requires
-turn-after-requires c κs = rw (c .before .before .before .write-command .ensures) (write-fits (c .before .before .before .before .before .args .state) (c .before .before .before .before .before .pre .0))
+turn-after-requires c κs =
+    let s = start (c .before) in
+    rw (c .before .before .before .write-command .ensures) (in-state (s .args .state) (s .pre .0) .fits)
 
 returns-2 : tie.Need-returns-2
-unfolding given giveRefusal
 returns-2 c =
-    let s = c .before .before .before .before .before .before .before .args .state in
-    let words = c .before .before .before .before .before .before .before .args .words .now in
-    let f = commandAt (writeCommand s) (s .turn) in
-    let many : c .before .before .before .message-words .result ≡ messageWords (f .length)
-    = c .before .before .before .message-words .ensures ∙ ap (λ (g : Command). messageWords (g .length)) (c .before .before .before .before .command-at .ensures ∙ ap (λ (g : Command). commandAt g (s .turn)) (c .before .before .before .before .before .write-command .ensures)) in
-    let next : c .before .turn-after .result ≡ turnAfter (writeCommand s) (s .turn) words = rw (c .before .before .before .before .before .write-command .ensures) at (c .before .turn-after .ensures) in
-    simp (c .before .before .before .before .before .before .before .pre .0, c .before .before .before .before .before .before .before .pre .1, eq-eqb (length words) (messageWords (f .length)) (c .before .before .if1 .left ∙ many), c .with-turn .ensures, next)
+    let p = c .before .before .before in
+    let s = start p in
+    let next : c .before .turn-after .result ≡ turnAfter (writeCommand (state p)) (state p .turn) (s .args .words .now) =
+    rw (p .before .before .write-command .ensures) at (c .before .turn-after .ensures) in
+    rw (given-taken (state p) (s .args .words .now) (s .pre .0) (s .pre .1) (c .before .before .if1 .left ∙ asked-for p), c .with-turn .ensures, next)
 
 pub give-in-turn-spec : {M : Type 1} → statement M
 give-in-turn-spec =

@@ -7,7 +7,8 @@ use Rattle.trace.proofs.main.Statement.{statement}
 use Rattle.trace.proofs.main.Tie as tie
 
 abbrev Inv-loop : tie.InvT-loop
-Inv-loop memory₀ input₀ buffer₀ state₀ turns₀ memory input buffer state turns = (length memory ≡ 256) × (length input ≡ 16384) × (length buffer ≡ 65536)
+Inv-loop memory₀ input₀ buffer₀ state₀ turns₀ memory input buffer state turns =
+    (length memory ≡ 256) × (length input ≡ 16384) × (length buffer ≡ 65536)
 
 abbrev μ-loop : tie.MeasureT-loop
 μ-loop memory₀ input₀ buffer₀ state₀ turns₀ memory input buffer state turns = turns

@@ -1,0 +1,63 @@
+-- What stays: memory but at a release that accepts a WRITE; the answer, whatever word is taken; and what a response shows
+-- while a message is open, so that the status it shows is the one held at select.
+-- Assumes nothing.
+use Prim.Native.Nat.{ℕ}
+use mathlib.Core.Bool.{Bool, true, false, not, _&&_}
+use mathlib.Core.List.{List}
+use mathlib.Core.Logic.{_⊎_, inl, inr}
+use mathlib.Core.Path.{_≡_, refl, sym, _∙_}
+use borrow.Author.Tests.{eqb-true, not-true}
+use lib.ListN.{length}
+use Rattle.rules.specs.Refusals as refusal
+use Rattle.rules.specs.Rules.{write}
+use Rattle.token.proofs.Good.{both}
+use Rattle.token.specs.Response.{anySet}
+use Rattle.judge.proofs.Laws.{never}
+use Rattle.card.specs.Release.{silent, judged, writes, endedMemory, releaseRefusal, memoryAfter}
+use Rattle.card.specs.Card.{selected, moduleSet}
+use Rattle.card.specs.Exchange.{exchanged, fields, responseOf, nextWord}
+use Rattle.card.specs.declared.Card.{Card}
+use Rattle.rules.proofs.Cases.{by-test}
+use Rattle.card.proofs.Cases.{selected-case, module-case, exchanged-case, memory-case}
+use Rattle.card.proofs.Laws.{settable}
+
+-- ---- memory
+
+-- a release that is not refused, of an accepted WRITE
+pub record Accepts (c : Card) (size left : ℕ) : Type 0 where
+  pub unrefused : releaseRefusal c size left ≡ refusal.None
+  pub judged-clean : anySet (judged c left) ≡ false
+  pub code : fields c .code ≡ write .code
+
+accepts : (c : Card) (size left : ℕ) → releaseRefusal c size left ≡ refusal.None → writes c left ≡ true → Accepts c size left
+unfolding writes
+accepts c size left q w =
+    let (passed, code) = both (not (silent c left) && not (anySet (judged c left))) _ w in
+    let (heard, clean) = both (not (silent c left)) _ passed in
+    record { unrefused = q; judged-clean = not-true _ clean; code = eqb-true _ _ code }
+
+pub memory-changes : (c : Card) (memory : List ℕ) (left : ℕ) → (memoryAfter c memory left ≡ memory) ⊎ Accepts c (length memory) left
+unfolding endedMemory
+memory-changes c memory left =
+    let P : List ℕ → Type 0 = λ m. (m ≡ memory) ⊎ Accepts c (length memory) left in
+    memory-case P c memory left (λ r. inl refl) (λ q. by-test P (writes c left) (λ w. inr (accepts c (length memory) left q w)) (λ w. inl refl))
+
+-- ---- the answer
+
+pub answer-alone : (c : Card) (memory : List ℕ) (word other : ℕ) → exchanged c memory word .sent ≡ exchanged c memory other .sent
+answer-alone c memory word other =
+    exchanged-case (λ e. e .sent ≡ exchanged c memory other .sent) c memory word
+    (λ r. exchanged-case (λ e. 0 ≡ e .sent) c memory other (λ r. refl) (λ q. absurd (r q)))
+    (λ q. exchanged-case (λ e. nextWord c memory ≡ e .sent) c memory other (λ r. absurd (r q)) (λ q. refl))
+
+-- ---- the response, from select on
+
+pub select-holds : (c : Card) → responseOf (selected c .card) ≡ responseOf c
+select-holds c = selected-case (λ a. responseOf (a .card) ≡ responseOf c) c (λ n r. refl) (λ r o. refl)
+
+pub word-holds : (c : Card) (memory : List ℕ) (word : ℕ) → responseOf (exchanged c memory word .card) ≡ responseOf c
+word-holds c memory word = exchanged-case (λ e. responseOf (e .card) ≡ responseOf c) c memory word (λ r. refl) (λ q. refl)
+
+-- a module-state call changes nothing while a message is open
+pub module-holds : (c : Card) (stf : Bool) (state : ℕ) → c .port .message .opened ≡ true → moduleSet c stf state .card ≡ c
+module-holds c stf state h = module-case (λ a. a .card ≡ c) c stf state (λ r. refl) (λ q. never (sym h ∙ settable c state q .closed))

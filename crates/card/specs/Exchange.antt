@@ -1,0 +1,106 @@
+-- AreWords sent. The next word depends on the card and its memory alone, never on the word that is taken while it is sent.
+use Prim.Native.Nat.{ℕ, _+_, _-_}
+use mathlib.Core.Bool.{Bool, cond, not, _&&_}
+use mathlib.Core.List.{List, [], _∷_}
+use lib.Dec.{eqb, leb, ltb}
+use lib.ListN.{length, getD, set}
+use Rattle.crc.specs.Crc.{crc16, crc16After}
+use Rattle.judge.specs.Judge.{tokenStatus, wordPlace}
+use Rattle.rules.specs.Rules.{read, readback}
+use Rattle.token.specs.Command.{commandFields}
+use Rattle.token.specs.Response.{response, responseFirst, responseSecond, anySet}
+use Rattle.token.specs.declared.command.Command.{Command}
+use Rattle.token.specs.declared.command.CommandToken.{CommandToken}
+use Rattle.token.specs.declared.response.Response.{Response}
+use Rattle.token.specs.declared.response.Status.{Status}
+use Rattle.rules.specs.Refusals as refusal
+use Rattle.card.specs.declared.Card.{Card}
+use Rattle.card.specs.declared.Told.{Told}
+use Rattle.card.specs.declared.Exchanged.{Exchanged}
+use Rattle.card.specs.Card.{wordRefusal}
+use Rattle.card.specs.State.{withMessage}
+use Rattle.card.specs.declared.Message.{Message}
+
+-- the command token's two words, as received, and its fields
+abbrev pub word1 : Card → ℕ
+word1 c = getD (c .port .message .words) 0 0
+
+abbrev pub word2 : Card → ℕ
+word2 c = getD (c .port .message .words) 1 0
+
+abbrev pub fields : Card → Command
+fields c = commandFields (word1 c) (word2 c)
+
+abbrev pub tokenHeard : Card → CommandToken
+tokenHeard c = record { first = word1 c; second = word2 c }
+
+-- judgement steps 1 to 3 of that token
+abbrev pub heardStatus : Card → Status
+heardStatus c = tokenStatus (c .size) (c .bases) (word1 c) (word2 c)
+
+-- words 1 and 2 are the response token, with the status held at select
+abbrev pub responseOf : Card → Response
+responseOf c = response (c .stf) (c .port .status) (c .«module_state»)
+
+-- READ sends its n words as memory holds them, then the CRC-16 of the words sent. Word k, counted from 0.
+unfoldable pub readWord : List ℕ → ℕ → ℕ → ℕ → ℕ → ℕ
+readWord memory from n check k = cond (ltb k n) (getD memory (from + k) 0) (cond (eqb k n && ltb 0 n) check 0)
+
+-- READBACK sends the last token's two words and their CRC-16
+unfoldable pub readbackWord : CommandToken → ℕ → ℕ
+readbackWord last k =
+    cond (eqb k 0) (last .first) (cond (eqb k 1) (last .second) (cond (eqb k 2) (crc16 (last .first ∷ last .second ∷ [])) 0))
+
+-- word k behind a token that passes steps 1 to 3
+unfoldable pub passedWord : Card → List ℕ → Command → ℕ → ℕ
+passedWord c memory f k =
+    cond (eqb (f .code) (read .code))
+    (readWord memory (wordPlace (c .bases .«read_base») (f .«sub_address»)) (f .length) (c .port .message .check) k)
+    (cond (eqb (f .code) (readback .code)) (readbackWord (c .port .last) k)
+    0)
+
+-- word k behind the token; all other words are 0x0000
+unfoldable pub payloadWord : Card → List ℕ → ℕ → ℕ
+payloadWord c memory k = cond (anySet (heardStatus c)) 0 (passedWord c memory (fields c) k)
+
+unfoldable pub nextWord : Card → List ℕ → ℕ
+nextWord c memory =
+    cond (eqb (c .port .message .count) 0) (responseFirst (responseOf c))
+    (cond (eqb (c .port .message .count) 1) (responseSecond (responseOf c))
+    (payloadWord c memory (c .port .message .count - 2)))
+
+-- the next word is one of READ's payload
+unfoldable pub sendsRead : Card → Bool
+sendsRead c =
+    leb 2 (c .port .message .count) && not (anySet (heardStatus c)) && eqb (fields c .code) (read .code)
+    && ltb (c .port .message .count - 2) (fields c .length)
+
+-- the running check moves with READ's payload words alone
+unfoldable pub checkAfter : Card → ℕ → ℕ
+checkAfter c sent = cond (sendsRead c) (crc16After (c .port .message .check) (sent ∷ [])) (c .port .message .check)
+
+-- the message after a word taken while another was sent. Further words than 67 are counted as 67 and dropped.
+unfoldable pub taken : Card → ℕ → ℕ → Message
+taken c word sent =
+    let m = c .port .message in
+    record {
+      opened = m .opened;
+      count = cond (ltb (m .count) 67) (m .count + 1) (m .count);
+      words = cond (ltb (m .count) 67) (set (m .words) (m .count) word) (m .words);
+      check = checkAfter c sent;
+    }
+
+-- ---- the operations. A refusal gives its number, the state it was given, and the word 0.
+
+-- next word: the word that the card will send
+unfoldable pub told : Card → List ℕ → Told
+told c memory =
+    cond (eqb (wordRefusal c (length memory)) refusal.None) (record { refusal = refusal.None; word = nextWord c memory })
+    (record { refusal = wordRefusal c (length memory); word = 0 })
+
+-- word: takes one word, sends the next word
+unfoldable pub exchanged : Card → List ℕ → ℕ → Exchanged
+exchanged c memory word =
+    cond (eqb (wordRefusal c (length memory)) refusal.None)
+    (record { refusal = refusal.None; card = withMessage c (taken c word (nextWord c memory)); sent = nextWord c memory })
+    (record { refusal = wordRefusal c (length memory); card = c; sent = 0 })

@@ -1,0 +1,416 @@
+// Makes single calls with given arguments and states, refused ones above all, and says what was answered and what was left.
+//
+// A record has 14 bytes: the operation, a byte x, and six numbers p q r s t u of two bytes, the high byte first. Its line is a
+// letter for the operation and then numbers in decimal; a buffer's CRC-16 is four hex digits. Word i of a block, from 0, is
+// i + 1; a buffer holds 0xFFFF everywhere before the call, and memory 7. An unfinished record ends the run.
+//
+// Setting parts of a state makes states that no run from power-up has: those are refused with State.
+ghost use Prim.Native.Nat.{_≤_};
+ghost use mathlib.Core.Path.{_≡_};
+ghost use lib.ListN.{length};
+use card::Card;
+use card::CardAfter;
+use card::Exchanged;
+use controller::Reading;
+use controller::Started;
+use controller::SureWrite;
+use controller::Verdict;
+use libc::STDIN_FILENO;
+use libc::STDOUT_FILENO;
+use pins::Pins;
+use pins::PinsAfter;
+use rules::refusal;
+use shifter::Shifter;
+
+struct Record {
+    op: u8,
+    x: u8,
+    p: u16,
+    q: u16,
+    r: u16,
+    s: u16,
+    t: u16,
+    u: u16,
+}
+
+// ---- writing
+
+fn write(text: &[u8]) {
+    io::write_all(STDOUT_FILENO, text);
+}
+
+fn say(number: usize) {
+    write(b" ");
+    io::print_decimal(STDOUT_FILENO, number as u64);
+}
+
+fn say_bit(bit: bool) {
+    say(bits::digit_of(bit) as usize);
+}
+
+fn glyph(n: u16) -> u8 {
+    let low = (n % 16) as u8;
+    if low < 10 {
+        b'0' + low
+    } else {
+        b'A' - 10 + low
+    }
+}
+
+// The CRC-16 of a buffer.
+fn say_check(buffer: &[u16]) {
+    let check = crc::check_words(buffer);
+    write(
+        &[
+            b' ',
+            glyph(check / 4096),
+            glyph(check / 256),
+            glyph(check / 16),
+            glyph(check),
+        ],
+    );
+}
+
+// ---- what is lent
+
+fn at_most(number: u16, most: usize) -> usize
+    ensures { λ r. ⌜ r ≤ most ⌝ }
+{
+    let n = number as usize;
+    if n < most { n } else { most }
+}
+
+// What is too large for a byte is refused as 255 is.
+fn byte_of(number: u16) -> u8 {
+    if number < 255 { number as u8 } else { 255 }
+}
+
+fn block_words() -> [u16; 100]
+    ensures { λ r. ⌜ 100 ≡ length r ⌝ }
+{
+    let mut block = [0u16; 100];
+    let mut i: usize = 0;
+    while i < 100 {
+        block[i] = i as u16 + 1;
+        i += 1;
+    }
+    block
+}
+
+// The words that came back: two, and the rest alike.
+fn words_of(first: u16, second: u16, further: u16) -> [u16; 100]
+    ensures { λ r. ⌜ 100 ≡ length r ⌝ }
+{
+    let mut words = [further; 100];
+    words[0] = first;
+    words[1] = second;
+    words
+}
+
+// ---- the controller
+
+fn build_in(record: Record, block: &[u16], buffer: &mut [u16]) {
+    let built = builder::build(
+        record.p as u32,
+        record.q as u32,
+        record.r as u32,
+        block,
+        buffer,
+    );
+    write(b"B");
+    say(built.refusal as usize);
+    say(built.words);
+    say_check(buffer);
+}
+
+// 2: code p, length q, sub-address r, a block of s words, a buffer of t words.
+fn build(record: Record) {
+    let block = block_words();
+    let mut buffer = [0xFFFFu16; 100];
+    let count = at_most(record.s, 100);
+    let room = at_most(record.t, 100);
+    build_in(record, &block[..count], &mut buffer[..room]);
+}
+
+fn say_reading(number: u8, token: bool, payload: bool) {
+    say(number as usize);
+    say_bit(token);
+    say_bit(payload);
+}
+
+// 3: for length p, q words: r, s, and then t. The line ends in how many words of payload are shown.
+fn read(record: Record) {
+    let words = words_of(record.r, record.s, record.t);
+    let count = at_most(record.q, 100);
+    let length = record.p as u32;
+    write(b"A");
+    match reader::read_answer(&words[..count], length) {
+        Reading::Good(_) => say_reading(refusal::NONE, true, true),
+        Reading::BadPayload(_) => say_reading(refusal::NONE, true, false),
+        Reading::BadToken => say_reading(refusal::NONE, false, false),
+        Reading::Argument => say_reading(refusal::ARGUMENT, false, false),
+        Reading::Count => say_reading(refusal::COUNT, false, false),
+    }
+    say(reader::payload_of(&words[..count], length).len());
+}
+
+// 4: length p, sub-address q.
+fn start(record: Record) {
+    write(b"S");
+    match sure::start(record.p as u32, record.q as u32) {
+        Started::Sure(_) => say(refusal::NONE as usize),
+        Started::Argument => say(refusal::ARGUMENT as usize),
+    }
+}
+
+// Of a sure write: length p, sub-address q, turn x.
+fn state_of(record: Record) -> SureWrite {
+    SureWrite {
+        length: record.p as u32,
+        sub_address: record.q as u32,
+        turn: record.x,
+    }
+}
+
+fn ask_in(record: Record, block: &[u16], buffer: &mut [u16]) {
+    let asked = sure::ask(state_of(record), block, buffer);
+    let after = asked.state;
+    write(b"Q");
+    say(asked.refusal as usize);
+    say(asked.words);
+    say(after.turn as usize);
+    say_check(buffer);
+}
+
+// 5: a block of r words, a buffer of s words.
+fn ask(record: Record) {
+    let block = block_words();
+    let mut buffer = [0xFFFFu16; 100];
+    let count = at_most(record.r, 100);
+    let room = at_most(record.s, 100);
+    ask_in(record, &block[..count], &mut buffer[..room]);
+}
+
+// 6: r words: s, t, and then u.
+fn give(record: Record) {
+    let words = words_of(record.s, record.t, record.u);
+    let count = at_most(record.r, 100);
+    let given = sure::give(state_of(record), &words[..count]);
+    let after = given.state;
+    write(b"G");
+    say(given.refusal as usize);
+    say(after.turn as usize);
+}
+
+fn say_verdict(number: u8, done: bool, unsure: bool) {
+    say(number as usize);
+    say_bit(done);
+    say_bit(unsure);
+}
+
+// 7: whether Done, and whether Unsure.
+fn verdict(record: Record) {
+    write(b"V");
+    match sure::verdict(state_of(record)) {
+        Verdict::NotYet => say_verdict(refusal::NONE, false, false),
+        Verdict::Done => say_verdict(refusal::NONE, true, false),
+        Verdict::Unsure => say_verdict(refusal::NONE, false, true),
+        Verdict::State => say_verdict(refusal::STATE, false, false),
+    }
+}
+
+// ---- the card
+
+// 1: size p.
+fn power_up(record: Record) {
+    let powered = card::power_up(record.p as usize);
+    let after = powered.card;
+    write(b"P");
+    say(powered.refusal as usize);
+    say(after.size);
+}
+
+// A card as at power-up, but for its size p, its count q, its module state x, and an open message where r is 1.
+fn card_of(record: Record) -> Card {
+    let powered = card::power_up(256);
+    let count = record.q as usize;
+    let opened = record.r == 1;
+    let mut card = powered.card;
+    card.size = record.p as usize;
+    card.module_state = record.x;
+    card.port.message.count = count;
+    card.port.message.opened = opened;
+    card
+}
+
+// A call that sends no word.
+fn silent(after: CardAfter) -> Exchanged {
+    let card = after.card;
+    Exchanged {
+        refusal: after.refusal,
+        card,
+        sent: 0,
+    }
+}
+
+fn next_word(card: Card, memory: &[u16]) -> Exchanged {
+    let told = exchange::next_word(card, memory);
+    Exchanged {
+        refusal: told.refusal,
+        card,
+        sent: told.word,
+    }
+}
+
+// Call s, with memory of t words or module state t, and u left-over bits.
+fn call_card(record: Record, memory: &mut [u16]) -> Exchanged {
+    let card = card_of(record);
+    let which = record.s;
+    match which {
+        1 => silent(card::select(card)),
+        2 => silent(card::set_module(card, true, byte_of(record.t))),
+        3 => next_word(card, memory),
+        4 => exchange::word(card, memory, 0x1234),
+        _ => silent(release::release(card, memory, byte_of(record.u))),
+    }
+}
+
+// 8: the line has the card's message, count and module state after the call, and the word sent.
+fn on_card(record: Record) {
+    let mut memory = [7u16; 300];
+    let size = at_most(record.t, 300);
+    let answer = call_card(record, &mut memory[..size]);
+    let after = answer.card;
+    let port = after.port;
+    let message = port.message;
+    write(b"C");
+    say(answer.refusal as usize);
+    say_bit(message.opened);
+    say(message.count);
+    say(after.module_state as usize);
+    say(answer.sent as usize);
+}
+
+// ---- the bit shifter
+
+fn say_shifter(number: u8, after: Shifter, left: u8) {
+    write(b"F");
+    say(number as usize);
+    say(after.count as usize);
+    say(left as usize);
+}
+
+// 9: count x, taken p, sending q; call r, with next word s.
+fn on_shifter(record: Record) {
+    let before = Shifter {
+        count: record.x,
+        taken: record.p,
+        sending: record.q,
+    };
+    let which = record.r;
+    match which {
+        1 => {
+            let step = shifter::shift_copy(before, record.s, true);
+            let sent = step.answer;
+            say_shifter(sent.refusal, step.shifter, 0);
+        }
+        2 => {
+            let cleared = shifter::clear_copy(before);
+            say_shifter(cleared.refusal, cleared.shifter, 0);
+        }
+        _ => {
+            let left = shifter::left_copy(before);
+            say_shifter(left.refusal, before, left.bits);
+        }
+    }
+}
+
+// ---- the card at the pins
+
+fn clock(pins: Pins, memory: &[u16]) -> PinsAfter {
+    let clocked = pins::clock(pins, memory, true);
+    let after = clocked.pins;
+    PinsAfter {
+        refusal: clocked.refusal,
+        pins: after,
+    }
+}
+
+// Call s, with memory of t words or module state t, behind a shifter with count u.
+fn call_pins(record: Record, memory: &mut [u16]) -> PinsAfter {
+    let pins = Pins {
+        card: card_of(record),
+        shifter: Shifter {
+            count: byte_of(record.u),
+            taken: 0,
+            sending: 0,
+        },
+    };
+    let which = record.s;
+    match which {
+        1 => pins::select(pins),
+        2 => pins::set_module(pins, true, byte_of(record.t)),
+        3 => clock(pins, memory),
+        _ => pins::release(pins, memory),
+    }
+}
+
+// 10: the line has the card's message and the shifter's count after the call.
+fn on_pins(record: Record) {
+    let mut memory = [7u16; 300];
+    let size = at_most(record.t, 300);
+    let answer = call_pins(record, &mut memory[..size]);
+    let after = answer.pins;
+    let card = after.card;
+    let port = card.port;
+    let message = port.message;
+    let shifter = after.shifter;
+    write(b"N");
+    say(answer.refusal as usize);
+    say_bit(message.opened);
+    say(shifter.count as usize);
+}
+
+// ---- reading
+
+fn record_of(bytes: [u8; 14]) -> Record {
+    Record {
+        op: bytes[0],
+        x: bytes[1],
+        p: bits::word_of(bytes[2], bytes[3]),
+        q: bits::word_of(bytes[4], bytes[5]),
+        r: bits::word_of(bytes[6], bytes[7]),
+        s: bits::word_of(bytes[8], bytes[9]),
+        t: bits::word_of(bytes[10], bytes[11]),
+        u: bits::word_of(bytes[12], bytes[13]),
+    }
+}
+
+fn call(record: Record) {
+    let op = record.op;
+    match op {
+        1 => power_up(record),
+        2 => build(record),
+        3 => read(record),
+        4 => start(record),
+        5 => ask(record),
+        6 => give(record),
+        7 => verdict(record),
+        8 => on_card(record),
+        9 => on_shifter(record),
+        _ => on_pins(record),
+    }
+    write(b"\n");
+}
+
+fn main() {
+    let mut turns = u64::MAX;
+    while turns > 0 {
+        turns -= 1;
+        let mut bytes = [0u8; 14];
+        if io::read_full(STDIN_FILENO, &mut bytes) < 14 {
+            return;
+        }
+        call(record_of(bytes));
+    }
+}

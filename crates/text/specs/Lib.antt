@@ -1,0 +1,5 @@
+pub mod Kinds
+pub mod Letters
+pub mod Lines
+pub mod Records
+pub mod Text
