@@ -57,7 +57,8 @@ askedWord p memory = cond (eqb (p .shifter .count) 0) (told (p .card) memory .wo
 unfoldable pub handed : Card → List ℕ → Sent → Card
 handed c memory sent = cond (sent .complete) (exchanged c memory (sent .word) .card) c
 
--- one bit in, one bit out, refused as a word is: State, Size, Closed
+-- one bit in, one bit out, refused as a word is: State, Size, Closed. The memory lent with a word's sixteen bits is the same: document 01 has the
+-- device write none meanwhile.
 unfoldable pub clocked : Pins → List ℕ → Bool → Clocked
 clocked p memory bit =
     let number = behindShifter p (wordRefusal (p .card) (length memory)) in

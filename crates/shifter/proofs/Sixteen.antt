@@ -1,4 +1,6 @@
--- Sixteen bits through the shifter exchange a word: from count 0, whatever else the shifter holds, the bits of the word handed in with the first of them go out, from bit 15, and the sixteenth completes the word of the bits that came and leaves the shifter clear. What is handed in with the fifteen others does not matter.
+-- Sixteen bits through the shifter exchange a word: from count 0, whatever else the shifter holds, the bits of the word handed in with the
+-- first of them go out, from bit 15, and the sixteenth completes the word of the bits that came and leaves the shifter clear. What is
+-- handed in with the fifteen others does not matter.
 -- Assumes nothing.
 use Prim.Native.Nat.{ℕ, suc, _+_, _-_, _*_, _/_, _%_, _^_, _≤_, _<_}
 use native.Mathlib.Nat.{add-zero, add-mul, add-assoc, mul-one, mul-assoc, mul-comm, div-add-mod', mul-add-mod-self-right, mul-mod-left, pow-suc}
