@@ -1,4 +1,4 @@
--- AreWords on lines: there and back, part by part, and known by their bits.
+-- Words on lines: there and back, part by part, and known by their bits.
 -- Assumes nothing.
 use Prim.Native.Nat.{ℕ, zero, suc, _+_, _-_, _*_, _^_, _≤_, _<_}
 use native.Mathlib.Nat.{mod-eq-of-lt, lt-of-lt-of-le}

@@ -10,6 +10,7 @@ unfoldable pub bits : ℕ → ℕ → List Bool
 bits zero n = []
 bits (suc k) n = eqb (n / 2 ^ k % 2) 1 ∷ bits k n
 
+-- a bit as a binary digit
 abbrev pub digit : Bool → ℕ
 digit true = 1
 digit false = 0

@@ -1,4 +1,4 @@
--- AreWords on a line: 16 bits each, the highest first. `stream 16` puts them there, and these take them off.
+-- Words on a line: 16 bits each, the highest first. `stream 16` puts them there, and these take them off.
 use Prim.Native.Nat.{ℕ, zero, suc, _/_, _%_, _<_}
 use mathlib.Core.Bool.{Bool}
 use mathlib.Core.List.{List, [], _∷_}

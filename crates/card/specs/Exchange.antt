@@ -1,4 +1,4 @@
--- AreWords sent. The next word depends on the card and its memory alone, never on the word that is taken while it is sent.
+-- Words sent. The next word depends on the card and its memory alone, never on the word that is taken while it is sent.
 use Prim.Native.Nat.{ℕ, _+_, _-_}
 use mathlib.Core.Bool.{Bool, cond, not, _&&_}
 use mathlib.Core.List.{List, [], _∷_}

@@ -42,6 +42,7 @@ table = reset ∷ synch ∷ tick ∷ readback ∷ write ∷ read ∷ configWrite
 
 -- ---- by name
 
+-- the place of a command's row in the table
 abbrev pub placeOf : Name → ℕ
 placeOf Reset = 0
 placeOf Synch = 1
@@ -52,6 +53,7 @@ placeOf Read = 5
 placeOf ConfigWrite = 6
 placeOf ConfigRead = 7
 
+-- a command's row
 abbrev pub rowOf : Name → Rule
 rowOf Reset = reset
 rowOf Synch = synch
@@ -62,12 +64,13 @@ rowOf Read = read
 rowOf ConfigWrite = configWrite
 rowOf ConfigRead = configRead
 
+-- a code is a command's
 abbrev pub isCommand : ℕ → Name → Bool
 isCommand code name = eqb code (rowOf name .code)
 
 -- ---- by code
 
--- what the table has under a code: whether there is a row, and which, zeros where there is none
+-- what is found under a code: whether there is a row, and which, zeros where there is none
 pub record InTable : Type 0 where
   pub there : Bool
   pub rule : Rule
@@ -88,6 +91,7 @@ unfoldable pub rowIn : List Rule → ℕ → InTable
 rowIn [] code = missing
 rowIn (r ∷ rest) code = cond (eqb (r .code) code) (found r) (rowIn rest code)
 
+-- what the table has under a code
 unfoldable pub ruleOf : ℕ → InTable
 ruleOf code = rowIn table code
 
