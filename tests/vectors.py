@@ -9,7 +9,7 @@ from pathlib import Path
 
 sys.dont_write_bytecode = True  # leave no __pycache__ in the repository
 
-from second import known, refused_calls, sure, trace, vector_records
+from second import known, refused_calls, sure, trace, unit, vector_records
 
 # Each file and its maker, which gives the number of records and the content.
 FILES = [
@@ -23,6 +23,8 @@ FILES = [
     ("crates/refused_calls/stdout", refused_calls.stdout),
     ("crates/sure_writes/stdin", sure.stdin),
     ("crates/sure_writes/stdout", sure.stdout),
+    ("crates/unit/stdin", unit.stdin),
+    ("crates/unit/stdout", unit.stdout),
     ("crates/trace_vectors/stdin", trace.vectors_stdin),
     ("crates/trace_vectors/stdout", trace.vectors_stdout),
     ("examples/document-01.txt", lambda: trace.shown("document-01")),
@@ -67,6 +69,8 @@ def main(arguments):
     trace.self_test()
     sure.self_test()
     refused_calls.self_test()
+    unit.self_test()
+    print(f"crates/unit: {unit.statistic()}")
     handle = write if arguments else compare
     results = [handle(path, *maker()) for path, maker in FILES]
     return 0 if all(results) else 1

@@ -1,5 +1,7 @@
 """CRC-4 and CRC-16, worked bit by bit from their polynomials."""
 
+from functools import lru_cache
+
 CRC4_POLYNOMIAL = 0b1_0011  # x^4 + x + 1
 CRC16_POLYNOMIAL = 0b1_1000_0000_0000_0101  # x^16 + x^15 + x^2 + 1
 
@@ -28,6 +30,7 @@ def crc(polynomial, width, message_bits):
     return number(rest[len(message_bits):])
 
 
+@lru_cache(maxsize=None)  # few tokens, asked for again at every step of every message
 def crc4(word1, word2):
     """The CRC-4 that a token's two words ask for: bits 3-0 of word 2 do not count."""
     return crc(CRC4_POLYNOMIAL, 4, bits(word1, 16) + bits(word2, 16)[:12])

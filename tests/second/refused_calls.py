@@ -2,20 +2,19 @@
 
 from itertools import combinations, product
 
+from . import load_calls, load_records, refused_records
+from .call_answers import ARGUMENT, CLOSED, COUNT, MOST_SIZE, OPEN, ROOM, SIZE, STATE, TURN, check, refusal
 from .card import CLEAN, Card, whole_message, with_module
 from .checks import crc16
 from .refused_records import (
     AT_PINS, BIT, CLEAR, DONE, LEFT_OVER, LENDING, MODULE, NEXT_WORD, RELEASE, SELECT, UNSURE, WORD, Ask, Build, CardCall,
-    Give, PinCall, PowerUp, Read, Shift, Start, Verdict, all_records, kind_of_call, message_words, packed,
+    Give, PinCall, PowerUp, Read, Shift, Start, Verdict, kind_of_call, message_words,
 )
 from .sure import read_back
 from .tokens import READ, READBACK, WRITE, command_token, read_command, read_response
 from .trace_records import with_answer, with_payload
 
-SIZE, STATE, OPEN, CLOSED, ARGUMENT, ROOM, TURN, COUNT = range(1, 9)
-ORDER = (STATE, SIZE, OPEN, CLOSED, TURN, ARGUMENT, COUNT, ROOM)
-
-MOST_SIZE, MOST_RECEIVED = 32768, 67
+MOST_RECEIVED = 67
 
 # What the program has room for.
 MOST_WORDS, MOST_MEMORY = 100, 300
@@ -23,17 +22,8 @@ MOST_WORDS, MOST_MEMORY = 100, 300
 
 # Answers: the refusal number, and what the call gave and left.
 
-def refusal(faults):
-    """The number of the first fault in document 01's order, 0 where there is none."""
-    return next((number for number in ORDER if faults.get(number)), 0)
-
-
 def given_words(count, first, second, further):
     return [first, second, *[further] * MOST_WORDS][:count]
-
-
-def check(buffer):
-    return f"{crc16(buffer):04X}"
 
 
 def power_up(size):
@@ -146,6 +136,7 @@ def pins(module_state, size, count, is_open, call, given, shifted):
 ANSWERS = {
     PowerUp: ("P", power_up), Build: ("B", build), Read: ("A", read), Start: ("S", start), Ask: ("Q", ask),
     Give: ("G", give), Verdict: ("V", verdict), CardCall: ("C", card), Shift: ("F", shift), PinCall: ("N", pins),
+    **load_calls.ANSWERS,
 }
 
 
@@ -159,8 +150,15 @@ def line(record):
     return " ".join([letter, *map(str, answer(record))])
 
 
+def all_records():
+    """The loader's come last, so that the others keep their places."""
+    return refused_records.all_records() + load_records.all_records()
+
+
 def stdin():
-    return len(all_records()), b"".join(packed(record) for record in all_records())
+    packed = [*map(refused_records.packed, refused_records.all_records())]
+    packed += map(load_records.packed, load_records.all_records())
+    return len(packed), b"".join(packed)
 
 
 def stdout():
@@ -170,7 +168,7 @@ def stdout():
 
 # The test that no refusal is missing.
 
-# What each kind of call may refuse, by document 01's table.
+# What each kind of call may refuse, by document 01's table and request 1.
 REFUSALS = {
     (PowerUp, 0): {SIZE},
     (Build, 0): {ARGUMENT, ROOM},
@@ -189,6 +187,7 @@ REFUSALS = {
     (PinCall, 2): {STATE, OPEN, ARGUMENT},
     (PinCall, 3): {STATE, SIZE, CLOSED},
     (PinCall, 4): {STATE, SIZE, CLOSED},  # a shifter's count above 15 is State, so no left-over bits are refused
+    **load_calls.REFUSALS,
 }
 
 
@@ -227,12 +226,17 @@ def test_room(record):
 
 
 def self_test():
-    """Raises AssertionError where a refusal of document 01 is not met, or a record is too large."""
+    """Raises AssertionError where a refusal is not met, or a record is too large, or two operations have one letter, or
+    the loader's lack something."""
     kinds = {}
     for record in all_records():
         test_room(record)
         kinds.setdefault(kind_of_call(record), []).append(record)
+    letters = [letter for letter, _ in ANSWERS.values()]
+    if len({*letters}) != len(letters):
+        raise AssertionError(f"a letter for two operations: {letters}")
     if kinds.keys() != REFUSALS.keys():
         raise AssertionError(f"only wanted, or only met: {kinds.keys() ^ REFUSALS.keys()}")
     for kind, records in kinds.items():
         test_refusals(kind, records)
+    load_calls.self_test()

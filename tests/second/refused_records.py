@@ -2,7 +2,8 @@
 
 A record has 14 bytes: the operation, x (1 byte), and six numbers of 2 bytes each, high byte first. A type below has its
 numbers in this order, those of WITH_X from x on; the places that it does not use are 0. Words are given by their number:
-the block's are 1, 2, 3 and so on, the buffer (room) is full of 0xFFFF, and the memory full of 7.
+the block's are 1, 2, 3 and so on, the buffer (room) is full of 0xFFFF, and the memory full of 7. The loader's records
+are in load_records.
 """
 
 from collections import namedtuple
@@ -40,11 +41,15 @@ LENDING = (NEXT_WORD, WORD, RELEASE)
 CLEAN_RESPONSE = (0x8000, 0x8780)
 
 
+def packed_call(operation, x, numbers):
+    numbers = [*numbers, *[0] * (6 - len(numbers))]
+    return bytes([operation, x]) + b"".join(number.to_bytes(2, "big") for number in numbers)
+
+
 def packed(record):
     kind = type(record)
     x, *numbers = record if kind in WITH_X else (0, *record)
-    numbers += [0] * (6 - len(numbers))
-    return bytes([OPERATIONS.index(kind) + 1, x]) + b"".join(number.to_bytes(2, "big") for number in numbers)
+    return packed_call(OPERATIONS.index(kind) + 1, x, numbers)
 
 
 def kind_of_call(record):
@@ -237,6 +242,11 @@ def drawn(draw):
     yield PinCall(*state, draw.pick((3, 4)), near(draw, size), near(draw, draw.below(16)))
 
 
+def each_once(records):
+    # Two types with equal numbers are equal as tuples, so the type goes with them.
+    return [record for _, record in dict.fromkeys((type(record), record) for record in records)]
+
+
 @lru_cache(maxsize=None)
 def all_records():
     groups = (
@@ -247,5 +257,4 @@ def all_records():
     draw = Draw(13)
     for _ in range(6):
         records += drawn(draw)
-    # Each once. Two types with equal numbers are equal as tuples, so the type goes with them.
-    return [record for _, record in dict.fromkeys((type(record), record) for record in records)]
+    return each_once(records)

@@ -6,7 +6,7 @@ from typing import NamedTuple
 
 from .card import CLEAN, Card, whole_message, with_module
 from .checks import bits, crc16, number
-from .sure_records import CALM, CUT, FLIPPED, MEMORY, UNDAMAGED, Prepare, all_records, packed
+from .sure_records import CALM, CUT, MEMORY, UNDAMAGED, UNSEEN, Prepare, all_records, packed
 from .tokens import read_command, read_response
 from .trace_records import config_read, config_write, readback, write
 
@@ -14,13 +14,14 @@ DONE, UNSURE, PREPARED = "D", "U", "P"
 
 
 class End(NamedTuple):
-    """What a record led to: the verdict, whether the first READBACK passed though the card had refused it, and
-    the card and memory after it."""
+    """What a record led to: the verdict, the card and memory after it, whether the first READBACK passed though the
+    card had refused it, and whether the card took the message between the READBACKs."""
 
     verdict: str
-    refused: bool
     card: Card
     memory: list
+    refused: bool = False
+    taken: bool = False
 
 
 # The line.
@@ -50,10 +51,23 @@ def crossed(card, memory, words, damage):
     line, got = line_of(words), []
     if kind == CUT:
         got, card, memory = heard(card, memory, line[:there])
-    elif kind == FLIPPED:
+    elif kind != UNSEEN:  # FLIPPED, and every number that is no kind
         got, card, memory = heard(card, memory, flipped(line, there))
         got = flipped(got, back)
-    return words_of(got + [fill] * (len(line) - len(got))), card, memory
+    return words_of(got + [int(fill == 1)] * (len(line) - len(got))), card, memory
+
+
+class Line:
+    """The line with the damages to come, one for each message; those behind the last damage are undamaged."""
+
+    def __init__(self, damages):
+        self.damages = iter(damages)
+        self.carried = []  # for each message sent, its number of bits and its damage
+
+    def cross(self, card, memory, words):
+        damage = next(self.damages, UNDAMAGED)
+        self.carried.append((16 * len(words), damage))
+        return crossed(card, memory, words, damage)
 
 
 # The controller.
@@ -66,26 +80,31 @@ def read_back(words):
     return fields[1:4], tuple(words[2:4])
 
 
-def sure_write(card, memory, record):
-    """How a sure write ends."""
-    before, during, after = record.damages
-    words, card, memory = crossed(card, memory, readback(), before)
+def between_readbacks(line, card, memory, message):
+    """How READBACK, the message and READBACK end."""
+    words, card, memory = line.cross(card, memory, readback())
     first = read_back(words)
     if first is None or read_command(*first[1]) is None:
-        return End(UNSURE, False, card, memory)
+        return End(UNSURE, card, memory)
     refused = card.status != CLEAN
-    message = write(record.sub_address, record.block)
-    _, card, memory = crossed(card, memory, message, during)
-    words, card, memory = crossed(card, memory, readback(), after)
-    done = read_back(words) == (CLEAN, tuple(message[:2]))
-    return End(DONE if done else UNSURE, refused, card, memory)
+    token = tuple(message[:2])
+    _, card, memory = line.cross(card, memory, message)
+    # Clean with this token only by taking the message: before it the READBACK's was the last, or the status not clean.
+    taken = (card.status, card.last_token) == (CLEAN, token)
+    words, card, memory = line.cross(card, memory, readback())
+    done = read_back(words) == (CLEAN, token)
+    return End(DONE if done else UNSURE, card, memory, refused, taken)
+
+
+def sure_write(card, memory, record):
+    return between_readbacks(Line(record.damages), card, memory, write(record.sub_address, record.block))
 
 
 def prepare(card, memory, record):
     card = with_module(card, record.module)
     for message in (config_write(record.write_base), config_read(record.read_base)):
         _, card, memory = crossed(card, memory, message, UNDAMAGED)
-    return End(PREPARED, False, card, memory)
+    return End(PREPARED, card, memory)
 
 
 # The stored records, all with one card.

@@ -35,13 +35,17 @@ class Prepare(NamedTuple):
     read_base: int
 
 
+def packed_damage(damage):
+    kind, fill, there, back = damage
+    return bytes([kind, fill]) + there.to_bytes(2, "big") + back.to_bytes(2, "big")
+
+
 def packed(record):
     if isinstance(record, Prepare):
         bases = (base.to_bytes(4, "big") for base in (record.write_base, record.read_base))
         return b"".join([bytes([PREPARE, record.module]), *bases, bytes(10)])
     parts = [bytes([len(record.block), record.sub_address])]
-    for kind, fill, there, back in record.damages:
-        parts += [bytes([kind, fill]), there.to_bytes(2, "big"), back.to_bytes(2, "big")]
+    parts += [packed_damage(damage) for damage in record.damages]
     parts += [word.to_bytes(2, "big") for word in record.block]
     return b"".join(parts)
 

@@ -11,7 +11,7 @@ use Rattle.token.specs.Marks.{withCheck, checkRight, goodMarks}
 use Rattle.token.specs.Response.{anySet, responseMarks, goodResponse, responseFields, responseRead}
 use Rattle.controller.specs.Reader.{readRefusal, tokenGood, payloadGood, fieldsRead, answerRead, payloadShown}
 use Rattle.controller.specs.Builder.{isReading, withCheckWord, payload, message}
-use Rattle.controller.specs.Sure.{readbackCommand, readGood, passes, confirms, sure, outOfRange, verdictGives, verdictOf}
+use Rattle.controller.specs.Sure.{readbackCommand, readGood, passes, isToken, confirms, sure, outOfRange, verdictGives, verdictOf}
 use Rattle.controller.specs.declared.Verdict.the-variants.{NotYet, Done, Unsure, State}
 
 pub messages : (
@@ -59,7 +59,7 @@ pub last-readbacks : (
     ∷ []
     )
     ≡ (true ∷ false ∷ false ∷ [])
-unfolding confirms anySet readGood answerRead readRefusal tokenGood payloadGood fieldsRead responseRead responseFields agrees messageWords commandFirst commandUpper commandSecond withCheck goodResponse responseMarks goodMarks checkRight crc4 crc16After crc feed step shift stream number bits taps4 taps16
+unfolding confirms isToken commandFits anySet readGood answerRead readRefusal tokenGood payloadGood fieldsRead responseRead responseFields agrees messageWords commandFirst commandUpper commandSecond withCheck goodResponse responseMarks goodMarks checkRight crc4 crc16After crc feed step shift stream number bits taps4 taps16
 last-readbacks = refl
 
 -- what states say: before the last words, Done, Unsure, and those whose turn or length lies outside its range

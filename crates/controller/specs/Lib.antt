@@ -1,3 +1,4 @@
+pub mod Base
 pub mod Builder
 pub mod Reader
 pub mod Sure

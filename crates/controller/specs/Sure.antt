@@ -53,15 +53,19 @@ readGood words = answerRead (readback .«most_length») words .payload
 unfoldable pub passes : List ℕ → Bool
 passes words = readGood words && goodCommand (getD words 2 0) (getD words 3 0)
 
+-- two words are the token of a command; a command that does not fit has none
+unfoldable pub isToken : Command → ℕ → ℕ → Bool
+isToken t first second = commandFits t && eqb first (commandFirst t) && eqb second (commandSecond t)
+
 -- the last one gives Done when its response token is good, ME, AR and IC are 0, the CRC-16 is good and the payload equals the token just sent
 unfoldable pub confirms : Command → List ℕ → Bool
 confirms middle words =
     readGood words
     && not (anySet (answerRead (readback .«most_length») words .fields .status))
-    && eqb (getD words 2 0) (commandFirst middle)
-    && eqb (getD words 3 0) (commandSecond middle)
+    && isToken middle (getD words 2 0) (getD words 3 0)
 
--- the turn after the words of a turn: those that come back with the command are not judged
+-- the turn after the words of a turn: those that come back with the command are not judged, and at any turn but 1 and 3 they count as
+-- the last READBACK's
 unfoldable pub turnAfter : Command → ℕ → List ℕ → ℕ
 turnAfter middle turn words =
     cond (eqb turn 1) (cond (passes words) 2 7)

@@ -1,17 +1,16 @@
--- Any command between two READBACKs: where they say Done, the card has taken it as it was built.
+-- Any command between two READBACKs: where they say Done, it has acted once.
 -- Assumes nothing.
 use Prim.Native.Nat.{ℕ}
 use mathlib.Core.Path.{_≡_, sym, ap, _∙_}
 use mathlib.Core.Bool.{true, false}
 use mathlib.Core.Logic.{_⊎_, inl, inr}
-use mathlib.Core.List.{List, _∷_}
+use mathlib.Core.List.{List}
 use Rattle.bits.specs.Bits.{stream}
 use Rattle.bits.specs.Lines.{words}
 use Rattle.link.specs.Damage.{Damage}
-use Rattle.token.specs.Command.{commandFirst, commandSecond, commandToken}
+use Rattle.token.specs.Command.{commandToken}
 use Rattle.token.specs.declared.command.Command.{Command}
 use Rattle.token.specs.Response.{anySet}
-use Rattle.judge.specs.Judge.{isChecked}
 use Rattle.judge.proofs.Laws.{never}
 use Rattle.card.specs.Release.{noted}
 use Rattle.card.specs.declared.Card.{Card}
@@ -20,20 +19,12 @@ use Rattle.controller.specs.Builder.{payload, message}
 use Rattle.controller.specs.Sure.{readbackCommand, passes, confirms}
 use Rattle.delivery.specs.Play.{Crossed, ModuleCall}
 use Rattle.card.proofs.Holding.{Idle}
-use Rattle.card.proofs.Closed.{cardActed, memoryActed}
 use Rattle.delivery.proofs.Accept.{Sendable}
-use Rattle.delivery.proofs.Ended.{Passes, Ended, Ignored, Refused, Taken, sent, seen, sent-ended}
+use Rattle.delivery.proofs.Acts.{Took, took-as}
+use Rattle.delivery.proofs.Ended.{Ended, Ignored, Refused, Taken, sent, seen, sent-ended}
 use Rattle.delivery.proofs.Readbacks.{readBack, after-first, before-last}
 use Rattle.delivery.proofs.Settings.{afterCalls, calls-aside}
 use Rattle.delivery.proofs.Told.{Told}
-
--- the command was taken as it was built; its payload too, if it is looked at
-pub record TakenAs (t : Command) (block : List ℕ) (c : Card) (memory : List ℕ) (c′ : Card) (memory′ : List ℕ) : Type 0 where
-  pub words : List ℕ
-  pub passed : Passes t c
-  pub same : isChecked (t .code) ≡ true → words ≡ payload t block
-  pub card : c′ ≡ cardActed c (commandFirst t ∷ commandSecond t ∷ words)
-  pub memory-is : memory′ ≡ memoryActed c memory (commandFirst t ∷ commandSecond t ∷ words)
 
 -- `before` and `behind` are the device's calls before the command and behind it
 module _ (c : Card) (memory : List ℕ) (t : Command) (block : List ℕ) (s : Sendable t (payload t block)) (told : Told t) (d₁ d₂ d₃ : Damage)
@@ -55,7 +46,7 @@ module _ (c : Card) (memory : List ℕ) (t : Command) (block : List ℕ) (s : Se
 
   pub command-done : Idle c memory → Idle c₁ (first .memory) → Idle c₂ (second .memory)
       → passes (words 5 (first .got)) ≡ true → confirms t (words 5 (third .got)) ≡ true
-      → TakenAs t block c₁ (first .memory) (second .side) (second .memory)
+      → Took c₁ (first .memory) t block (second .side) (second .memory)
   unfolding noted
   command-done idle first-idle second-idle p q = go (sent-ended t block s c₁ (first .memory) first-idle d₂)
     where
@@ -73,7 +64,7 @@ module _ (c : Card) (memory : List ℕ) (t : Command) (block : List ℕ) (s : Se
       neither (inr l) e = clean-then .1 (ap (λ (x : Card). x .port .last) e ∙ ap (λ (x : Port). x .last) same₁ ∙ l)
 
       go : Ended t (payload t block) c₁ (first .memory) (seen d₂ (stream 16 (message t block))) (second .side) (second .memory)
-          → TakenAs t block c₁ (first .memory) (second .side) (second .memory)
+          → Took c₁ (first .memory) t block (second .side) (second .memory)
       go (Ignored e same m) = absurd (neither (after-first c memory idle d₁ p) same)
       go (Refused e x m) = never (sym e ∙ ap anySet (sym (ap (λ (x : Card). x .port .status) x)) ∙ clean-then .0)
-      go (Taken ws j same x m) = record { words = ws; passed = j; same = same; card = x; memory-is = m }
+      go (Taken ws j same x m) = took-as t block s ws j same x m

@@ -61,10 +61,10 @@ module _ (c : Card) (memory : List ℕ) (idle : Idle c memory) (line : List Bool
   all-kept : take 67 ws ≡ ws
   all-kept = take-all 67 ws few
 
-  card-held : cardAfterLine c memory line ≡ cardEnded c ws (bitsLeft line)
+  pub card-held : cardAfterLine c memory line ≡ cardEnded c ws (bitsLeft line)
   card-held = card-heard c memory idle line ∙ ap (λ (l : List ℕ). cardEnded c l (bitsLeft line)) all-kept
 
-  memory-held : memoryAfterLine c memory line ≡ memoryEnded c memory ws (bitsLeft line)
+  pub memory-held : memoryAfterLine c memory line ≡ memoryEnded c memory ws (bitsLeft line)
   memory-held = memory-heard c memory idle line ∙ ap (λ (l : List ℕ). memoryEnded c memory l (bitsLeft line)) all-kept
 
   ended : (t : Command) (rest : List ℕ) → (Whole (c .size) (c .bases) ws (bitsLeft line) → AsBuilt t rest (c .size) (c .bases) line)
@@ -103,7 +103,7 @@ module _ (t : Command) (block : List ℕ) (s : Sendable t (payload t block)) (c 
   abbrev built : List Bool
   built = stream 16 (message t block)
 
-  built-long : length built ≤ 67 * 16
+  pub built-long : length built ≤ 67 * 16
   unfolding message messageWords
   built-long = go (eqb (t .length) 0) (s .count)
     where

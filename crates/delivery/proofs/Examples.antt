@@ -1,6 +1,8 @@
--- Whole plays, computed: a memory of four words, and the sure write of 7 to sub-address 1. And the premises of demand 3 can be met.
+-- Whole plays, computed: a memory of four words, and the sure write of 7 to sub-address 1, the setting of a base, and TICK in the middle. And the
+-- premises of demand 3 can be met.
 -- Assumes nothing.
-use Prim.Native.Nat.{ℕ, zero, suc, _<_}
+use Prim.Native.Nat.{ℕ, zero, suc}
+use native.Mathlib.Omega.{arith}
 use mathlib.Core.Option.{none, some}
 use mathlib.Core.Path.{_≡_, refl}
 use mathlib.Core.Bool.{true, false}
@@ -8,11 +10,11 @@ use mathlib.Core.List.{List, [], _∷_}
 use Rattle.bits.specs.Bits.{bits, number, stream}
 use Rattle.crc.specs.Crc.{shift, step, feed, crc, taps4, taps16, crc4, crc16After, agrees}
 use lib.Dec.{lit<, lit≤}
-use lib.ListN.{getD}
 use Rattle.bits.specs.Lines.{AreWords, words, wholeWords, bitsLeft}
 use Rattle.link.specs.Damage.{Damage, Unseen, Cut, Flipped, undamaged, flipAt, flipped, filled}
-use Rattle.rules.specs.Rules.{table, rowIn, ruleOf, messageWords}
-use Rattle.token.specs.Command.{commandFirst, commandUpper, commandSecond, commandFits, commandMarks, goodCommand, commandFields}
+use Rattle.rules.specs.Rules.{table, rowIn, ruleOf, messageWords, tick}
+use Rattle.token.specs.Command.{command, commandFirst, commandUpper, commandSecond, commandFits, commandMarks, goodCommand, commandFields}
+use Rattle.token.specs.declared.command.Command.{Command}
 use Rattle.token.specs.Marks.{withCheck, checkRight, goodMarks}
 use Rattle.token.specs.Response.{responseFirst, responseSecond, responseMarks, goodResponse, responseFields, responseRead, anySet}
 use Rattle.judge.specs.Judge.{firstFailing, step1, lengthFits, subFits, subStatus, step2, wordPlace, inside, step3, tokenStatus, step4, isChecked, checkStatus, step5, endStatus, judgement}
@@ -23,11 +25,13 @@ use Rattle.card.specs.Run as run
 use Rattle.card.specs.Exchange.{exchanged, readbackWord, passedWord, payloadWord, nextWord, told, sendsRead, checkAfter, taken}
 use Rattle.card.specs.State.{emptied, fresh, sized, outOfRange}
 use Rattle.card.specs.declared.Card.{Card}
+use Rattle.controller.specs.Base.{baseCommand, baseBlock}
 use Rattle.controller.specs.Reader.{readRefusal, tokenGood, payloadGood, fieldsRead, answerRead}
 use Rattle.controller.specs.Builder.{isReading, withCheckWord, payload, message, blockFits, buildRefusal, bufferAfter}
 use Rattle.controller.specs.Sure as controller
-use Rattle.controller.specs.Sure.{readbackCommand, commandAt, isAsk, isGive, readGood, passes, confirms, turnAfter, started, askRefusal, asked, askedBuffer, giveRefusal, given, Said, verdictGives, verdictOf}
+use Rattle.controller.specs.Sure.{readbackCommand, commandAt, isAsk, isGive, readGood, passes, isToken, confirms, turnAfter, started, askRefusal, asked, askedBuffer, giveRefusal, given, Said, verdictGives, verdictOf}
 use Rattle.controller.specs.declared.Verdict.the-variants.{Done, Unsure}
+use Rattle.delivery.specs.AnyCommand.{leg, legs, sureCommand, Accepts, Sends, BaseSends}
 use Rattle.delivery.specs.Delivery.{inWords, atPins, Inside, Room, sureWrite, Premises}
 use Rattle.card.specs.Whole.{after, answers, listened, cardAfterLine, memoryAfterLine, sentBits, heard}
 use Rattle.delivery.specs.Play.{crossed, settings, askedWords, round, between, Buffers, Calls, play}
@@ -91,6 +95,33 @@ pub met-inside : Inside started-up 1 (7 ∷ [])
 unfolding started-up powered fresh sized wordPlace
 met-inside = lit≤ tt
 
+-- those of any command in the middle, by CONFIG WRITE, and of setting a base
+base-words : AreWords (baseBlock 65537)
+unfolding AreWords
+base-words zero = lit< tt
+base-words (suc zero) = lit< tt
+base-words (suc (suc i)) = lit< tt
+
+pub met-command : Sends inWords started-up (1 ∷ 2 ∷ 3 ∷ 4 ∷ []) baseCommand (baseBlock 65537)
+unfolding started-up powered fresh sized emptied commandFits blockFits isReading
+met-command = record {
+  run = run.PowerUp 4 refl;
+  idle = refl;
+  lent = refl;
+  fits = refl;
+  block-fits = refl;
+  words = base-words;
+  other = λ e. omega arith;
+}
+
+pub met-base : BaseSends inWords started-up (1 ∷ 2 ∷ 3 ∷ 4 ∷ []) 65537
+unfolding started-up powered fresh sized emptied
+met-base = record { run = run.PowerUp 4 refl; idle = refl; lent = refl; fits = lit< tt }
+
+pub met-base-at-pins : BaseSends atPins started-up-pins (1 ∷ 2 ∷ 3 ∷ 4 ∷ []) 65537
+unfolding started-up-pins poweredPins powered fresh sized emptied
+met-base-at-pins = record { run = pins-run.PowerUp 4 refl; idle = refl; lent = refl; fits = lit< tt }
+
 -- ---- each damage happens
 
 -- what the sure write says, and the memory after; the device sets STF and module state before the second message, and before the third in vain
@@ -101,6 +132,17 @@ unfoldable pub end : Card → List ℕ → Damage → Damage → Damage → Said
 end c memory d₁ d₂ d₃ =
     let g = sureWrite inWords c memory 1 (7 ∷ []) buffers (record { first = d₁; second = d₂; third = d₃ }) calls in
     (verdictOf (g .state), g .memory)
+
+-- any command in the middle: the turn in the end, 6 for Done and 7 for Unsure, and the card's time, write base and module state after; the device
+-- sets the module state before the last message
+unfoldable pub middle : Command → List ℕ → Damage → Damage → Damage → ℕ × ℕ × ℕ × ℕ
+middle t block d₁ d₂ d₃ =
+    let g = sureCommand inWords started-up (1 ∷ 2 ∷ 3 ∷ 4 ∷ []) t block (record {
+      first = record { calls = []; damage = d₁ };
+      second = record { calls = []; damage = d₂ };
+      third = record { calls = record { stf = true; state = 5 } ∷ []; damage = d₃ };
+    }) in
+    (g .turn, g .side .time, g .side .bases .«write_base», g .side .«module_state»)
 
 pub record Plays : Type 0 where
   pub undamaged-done : end started-up (1 ∷ 2 ∷ 3 ∷ 4 ∷ []) undamaged undamaged undamaged ≡ (verdictGives Done, 1 ∷ 7 ∷ 3 ∷ 4 ∷ [])
@@ -119,9 +161,17 @@ pub record Plays : Type 0 where
   -- the first READBACK cut by its last bit: the card refuses it, it passes all the same, and the status alone keeps the verdict from Done
   pub passes-all-the-same : passes (words 5 (sent readbackCommand [] (Cut 79 false) written-before (1 ∷ 5 ∷ 3 ∷ 4 ∷ []) .got)) ≡ true
   pub status-alone : end written-before (1 ∷ 5 ∷ 3 ∷ 4 ∷ []) (Cut 79 false) (Unseen false) undamaged ≡ (verdictGives Unsure, 1 ∷ 5 ∷ 3 ∷ 4 ∷ [])
+  -- a base set; its CONFIG WRITE cut: it is not; the last answer flipped: it is, but not told
+  pub base-set : middle baseCommand (baseBlock 65537) undamaged undamaged undamaged ≡ (6, 0, 65537, 5)
+  pub base-cut : middle baseCommand (baseBlock 65537) undamaged (Cut 79 false) undamaged ≡ (7, 0, 0, 5)
+  pub base-untold : middle baseCommand (baseBlock 65537) undamaged undamaged (Flipped none (some 3)) ≡ (7, 0, 65537, 5)
+  -- TICK adds 2^3 to the time once, and not at all where it is unseen
+  pub tick-accepted : Accepts started-up (1 ∷ 2 ∷ 3 ∷ 4 ∷ []) (command (tick .code) 0 3) []
+  pub tick-once : middle (command (tick .code) 0 3) [] undamaged undamaged undamaged ≡ (6, 8, 0, 5)
+  pub tick-unseen : middle (command (tick .code) 0 3) [] undamaged (Unseen false) undamaged ≡ (7, 0, 0, 5)
 
 pub plays : Plays
-unfolding started-up buffers calls written-before end bits number stream shift step feed crc taps4 taps16 crc4 crc16After agrees words wholeWords bitsLeft flipAt flipped filled
+unfolding started-up buffers calls written-before end middle leg legs bits number stream shift step feed crc taps4 taps16 crc4 crc16After agrees words wholeWords bitsLeft flipAt flipped filled
     table rowIn ruleOf messageWords commandFirst commandUpper commandSecond commandFits commandMarks goodCommand commandFields
     withCheck checkRight goodMarks responseFirst responseSecond responseMarks goodResponse responseFields responseRead
     anySet firstFailing step1 lengthFits subFits subStatus step2 wordPlace inside step3 tokenStatus step4 isChecked checkStatus step5 endStatus judgement
@@ -129,7 +179,7 @@ unfolding started-up buffers calls written-before end bits number stream shift s
     selected wordRefusal exchanged releaseRefusal released memoryAfter readbackWord passedWord payloadWord nextWord told sendsRead checkAfter taken
     powered emptied fresh sized outOfRange readRefusal tokenGood payloadGood fieldsRead answerRead
     isReading withCheckWord payload message blockFits buildRefusal bufferAfter
-    commandAt isAsk isGive readGood passes confirms turnAfter started controller.outOfRange askRefusal asked askedBuffer giveRefusal given verdictOf
+    commandAt isAsk isGive readGood passes isToken confirms turnAfter started controller.outOfRange askRefusal asked askedBuffer giveRefusal given verdictOf
     after answers listened cardAfterLine memoryAfterLine sentBits heard crossed settings askedWords round between play sent moduleRefusal moduleSet
 plays =
     record {
@@ -142,4 +192,10 @@ plays =
       both-unseen = refl;
       passes-all-the-same = refl;
       status-alone = refl;
+      base-set = refl;
+      base-cut = refl;
+      base-untold = refl;
+      tick-accepted = refl;
+      tick-once = refl;
+      tick-unseen = refl;
     }

@@ -1,4 +1,5 @@
--- How the card judges tokens: what a passed one tells, and that READBACK's passes always, and WRITE's where its block is inside.
+-- How the card judges tokens: what a passed one tells, and that those of READBACK and CONFIG WRITE pass always, and WRITE's where its block is
+-- inside.
 -- Assumes nothing.
 use Prim.Native.Nat.{ℕ, _+_, _%_, _≤_}
 use native.Mathlib.Nat.{div-one}
@@ -17,6 +18,7 @@ use Rattle.token.proofs.Good.{good-command, good-response}
 use Rattle.judge.specs.Judge.{firstFailing, step1, lengthFits, subFits, subStatus, step2, wordPlace, inside, step3, tokenStatus}
 use Rattle.judge.specs.declared.Bases.{Bases}
 use Rattle.judge.proofs.Laws.{never, token-passed, passed-good, write-inside as judged-inside}
+use Rattle.controller.specs.Base.{baseCommand}
 use Rattle.controller.specs.Sure.{readbackCommand}
 
 -- ---- checks
@@ -51,6 +53,14 @@ pub readback-passes : (size : ℕ) (b : Bases) → anySet (tokenStatus size b (c
 unfolding tokenStatus firstFailing anySet step2 lengthFits subStatus subFits step3 ruleOf table rowIn
 readback-passes size b =
     rw (command-fields readbackCommand readback-fits, good-passes _ _ (command-good readbackCommand readback-fits))
+
+pub base-fits : CommandFits baseCommand
+unfolding commandFits
+base-fits = refl
+
+pub base-passes : (size : ℕ) (b : Bases) → anySet (tokenStatus size b (commandFirst baseCommand) (commandSecond baseCommand)) ≡ false
+unfolding tokenStatus firstFailing anySet step2 lengthFits subStatus subFits step3 ruleOf table rowIn
+base-passes size b = rw (command-fields baseCommand base-fits, good-passes _ _ (command-good baseCommand base-fits))
 
 pub built-check : (t : Command) → CommandFits t → crc4 (commandFirst t) (commandSecond t) ≡ commandSecond t % 16
 built-check t fits = command-check _ _ (command-good t fits)

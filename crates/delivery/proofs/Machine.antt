@@ -1,44 +1,43 @@
--- The sure write's three rounds at a card alone: each ask and each give is taken, the words asked for are the built message, and the turn that
--- follows.
+-- The sure write is WRITE between two READBACKs: each ask and each give is taken, the words asked for are the built message, and the turn that follows
+-- is the same. It is a fact of the controller alone, whoever hears the messages.
 -- Assumes nothing.
 use Prim.Native.Nat.{ℕ, _+_, _≤_}
 use native.Mathlib.Omega.{arith}
 use mathlib.Core.Path.{_≡_, refl, sym, ap, _∙_}
-use mathlib.Core.Bool.{true, false, cond}
-use mathlib.Core.List.{List, []}
+use mathlib.Core.Bool.{Bool, true, false, cond}
+use mathlib.Core.List.{List, [], _++_, append-nil}
 use borrow.Author.Tests.{le-ltb, le-leb, eq-eqb}
-use lib.Dec.{lit≤}
+use lib.Dec.{eqb, lit≤}
 use lib.ListN.{length, take}
 use lib.Seq.{take-at}
+use Rattle.bits.specs.Bits.{stream}
 use Rattle.bits.specs.Lines.{words}
 use Rattle.bits.proofs.Lines.{length-words}
-use Rattle.rules.specs.Rules.{messageWords, readback}
+use Rattle.rules.specs.Rules.{messageWords}
 use Rattle.token.specs.Command.{commandFits}
 use Rattle.token.specs.declared.command.Command.{Command}
-use Rattle.link.specs.Damage.{Damage}
-use Rattle.card.specs.Whole.{listed, heard}
-use Rattle.card.specs.declared.Card.{Card}
-use Rattle.card.proofs.Holding.{Idle}
+use Rattle.judge.proofs.Laws.{never}
+use Rattle.card.specs.Whole.{listed, Hears}
 use Rattle.controller.specs.Builder.{isReading, message, blockFits, buildRefusal, bufferAfter}
-use Rattle.controller.specs.Sure.{readbackCommand, commandAt, isAsk, isGive, passes, confirms, turnAfter, writeCommand, withTurn, sure, outOfRange, askRefusal, asked, askedBuffer, giveRefusal, given}
+use Rattle.controller.specs.Sure.{readbackCommand, commandAt, isAsk, isGive, passes, turnAfter, writeCommand, withTurn, sure, started, outOfRange, askRefusal, asked, askedBuffer, giveRefusal, given}
 use Rattle.controller.specs.declared.Asked.{Asked}
 use Rattle.controller.specs.declared.SureWrite.{SureWrite}
 use Rattle.controller.proofs.MessageLaws.{message-whole}
-use Rattle.delivery.specs.Play.{Crossed, ModuleCall, Going, askedWords, round}
-use Rattle.delivery.proofs.Judged.{writeOf}
-use Rattle.delivery.proofs.Ended.{sent, sent-quiet}
-use Rattle.delivery.proofs.Effects.{readback-sendable}
+use Rattle.delivery.specs.AnyCommand.{Fate, Fates, Course, leg, legs, sureCommand}
+use Rattle.delivery.specs.Delivery.{Side, Room, sureWrite}
+use Rattle.delivery.specs.Play.{Sets, settings, crossed, Going, askedWords, round, between, Buffers, Damages, Calls, play}
+use Rattle.delivery.proofs.Judged.{writeOf, write-fits}
 
 -- ---- a message asked for in its turn
 
 -- a command that an ask takes: its fields fit, the block fits it, and the buffer has room
-pub record Asks (s : SureWrite) (t : Command) (block buffer : List ℕ) : Type 0 where
-  pub in-state : outOfRange s ≡ false
-  pub turn : isAsk (s .turn) ≡ true
-  pub command-is : commandAt (writeCommand s) (s .turn) ≡ t
-  pub fits : commandFits t ≡ true
-  pub block-fits : blockFits t (length block) ≡ true
-  pub room : messageWords (t .length) ≤ length buffer
+record Asks (s : SureWrite) (t : Command) (block buffer : List ℕ) : Type 0 where
+  in-state : outOfRange s ≡ false
+  turn : isAsk (s .turn) ≡ true
+  command-is : commandAt (writeCommand s) (s .turn) ≡ t
+  fits : commandFits t ≡ true
+  block-fits : blockFits t (length block) ≡ true
+  room : messageWords (t .length) ≤ length buffer
 
 module _ (s : SureWrite) (t : Command) (block buffer : List ℕ) (h : Asks s t block buffer) where
   build-taken : buildRefusal t (length block) (length buffer) ≡ 0
@@ -69,69 +68,141 @@ given-at : (s : SureWrite) (ws : List ℕ) → outOfRange s ≡ false → isGive
 unfolding given giveRefusal
 given-at s ws h t n = rw (h, t, eq-eqb _ _ n)
 
+-- ---- the turns of the three messages
+
+record Turns (middle : Command) (turn : ℕ) (t : Command) : Type 0 where
+  small : turn ≤ 6
+  ask : isAsk turn ≡ true
+  give : isGive (turn + 1) ≡ true
+  asks : commandAt middle turn ≡ t
+  gives : commandAt middle (turn + 1) ≡ t
+
+module _ (middle : Command) (turn : ℕ) where
+  first-turns : turn ≡ 0 → Turns middle turn readbackCommand
+  unfolding commandAt isAsk isGive
+  first-turns e = rw e (record { small = lit≤ tt; ask = refl; give = refl; asks = refl; gives = refl })
+
+  middle-turns : turn ≡ 2 → Turns middle turn middle
+  unfolding commandAt isAsk isGive
+  middle-turns e = rw e (record { small = lit≤ tt; ask = refl; give = refl; asks = refl; gives = refl })
+
+  last-turns : turn ≡ 4 → Turns middle turn readbackCommand
+  unfolding commandAt isAsk isGive
+  last-turns e = rw e (record { small = lit≤ tt; ask = refl; give = refl; asks = refl; gives = refl })
+
 -- ---- the rounds
-
--- a message has crossed, no call was refused, and the sure write has another state
-abbrev pub arrived : SureWrite → List ModuleCall → Crossed Card → Going Card
-arrived s calls there = record { state = s; side = there .side; memory = there .memory; calls = calls; refused = [] }
-
--- length and sub-address that fit
-pub write-commanded : (n sub turn : ℕ) → n ≤ 63 → sub ≤ 255 → commandFits (writeCommand (sure n sub turn)) ≡ true
-unfolding commandFits
-write-commanded n sub turn h g = rw (le-leb n 63 h, le-leb sub 255 g)
 
 module _ (n sub : ℕ) (n-fits : n ≤ 63) (sub-fits : sub ≤ 255) where
   pub in-state : (turn : ℕ) → turn ≤ 7 → outOfRange (sure n sub turn) ≡ false
   unfolding outOfRange
-  in-state turn h = rw (write-commanded n sub turn n-fits sub-fits, le-ltb 7 turn h)
+  in-state turn h = rw (write-fits n sub n-fits sub-fits, le-ltb 7 turn h)
 
-  module _ (c : Card) (memory : List ℕ) (idle : Idle c memory) (calls : List ModuleCall) (buffer : List ℕ) (d : Damage) where
-    abbrev going : ℕ → Going Card
-    going turn = record { state = sure n sub turn; side = c; memory = memory; calls = calls; refused = [] }
+  -- the sure write, where the command between two READBACKs stands
+  abbrev pub going : {S : Type 0} → Course S → Going S
+  going g = record { state = sure n sub (g .turn); side = g .side; memory = g .memory; calls = g .calls; refused = g .refused }
 
-    round-at : (turn : ℕ) (t : Command) (block : List ℕ) → Asks (sure n sub turn) t block buffer → turn + 1 ≤ 7 → isGive (turn + 1) ≡ true
-        → commandAt (writeCommand (sure n sub turn)) (turn + 1) ≡ t → sent t block d c memory .refused ≡ []
-        → round heard block buffer d (going turn)
-        ≡ arrived (sure n sub (turnAfter (writeCommand (sure n sub turn)) (turn + 1) (words (messageWords (t .length)) (sent t block d c memory .got))))
-        calls (sent t block d c memory)
-    unfolding round sent listed
-    round-at turn t block h late give is quiet =
-        rw (asked-at (sure n sub turn) t block buffer h, words-asked (sure n sub turn) t block buffer h)
-        (rw (given-at (sure n sub (turn + 1)) _ (in-state (turn + 1) late) give (length-words _ _ ∙ ap (λ (x : Command). messageWords (x .length)) (sym is)), quiet))
+  module _ {S : Type 0} (hears : Hears S) (sets : Sets S) (f : Fate) (buffer : List ℕ) (g : Course S) where
+    abbrev w : Command
+    w = writeOf n sub
 
-    readback-quiet : sent readbackCommand [] d c memory .refused ≡ []
-    readback-quiet = sent-quiet readbackCommand [] readback-sendable c memory idle d
+    -- one message, with the device's calls before it
+    abbrev One : List ℕ → Type 0
+    One block = round hears block buffer (f .damage) (between sets (f .calls) (going g)) ≡ going (leg hears sets w block f g)
 
-    -- a READBACK
-    module _ (room : messageWords (readback .«most_length») ≤ length buffer) where
-      readback-asked : (turn : ℕ) → turn ≤ 7 → isAsk turn ≡ true → commandAt (writeCommand (sure n sub turn)) turn ≡ readbackCommand
-          → Asks (sure n sub turn) readbackCommand [] buffer
-      unfolding commandFits blockFits isReading
-      readback-asked turn h ask same =
-          record { in-state = in-state turn h; turn = ask; command-is = same; fits = refl; block-fits = refl; room = room }
-
-      pub round-first : round heard [] buffer d (going 0)
-          ≡ arrived (sure n sub (cond (passes (words 5 (sent readbackCommand [] d c memory .got))) 2 7)) calls (sent readbackCommand [] d c memory)
-      unfolding commandAt isAsk isGive turnAfter messageWords
-      round-first = round-at 0 readbackCommand [] (readback-asked 0 (lit≤ tt) refl refl) (lit≤ tt) refl refl readback-quiet
-
-      pub round-last : round heard [] buffer d (going 4)
-          ≡ arrived (sure n sub (cond (confirms (writeOf n sub) (words 5 (sent readbackCommand [] d c memory .got))) 6 7)) calls (sent readbackCommand [] d c memory)
-      unfolding commandAt isAsk isGive turnAfter messageWords
-      round-last = round-at 4 readbackCommand [] (readback-asked 4 (lit≤ tt) refl refl) (lit≤ tt) refl refl readback-quiet
-
-    -- the WRITE
-    pub round-write : (block : List ℕ) → length block ≡ n → messageWords n ≤ length buffer → sent (writeOf n sub) block d c memory .refused ≡ []
-        → round heard block buffer d (going 2) ≡ arrived (sure n sub 4) calls (sent (writeOf n sub) block d c memory)
-    unfolding commandAt isAsk isGive turnAfter
-    round-write block b room quiet =
-        round-at 2 (writeOf n sub) block
-        (record {
-          in-state = in-state 2 (lit≤ tt);
-          turn = refl;
-          command-is = refl;
-          fits = write-commanded n sub 2 n-fits sub-fits;
-          block-fits = unfold blockFits isReading in eq-eqb _ _ b;
+    round-leg : (t : Command) (block : List ℕ) → Turns w (g .turn) t → commandFits t ≡ true → blockFits t (length block) ≡ true
+        → messageWords (t .length) ≤ length buffer → One block
+    unfolding round between leg listed
+    round-leg t block at fits block-fits room =
+        let s : SureWrite = sure n sub (g .turn) in
+        let h : Asks s t block buffer = record {
+          in-state = in-state (g .turn) (omega (arith, at .small));
+          turn = at .ask;
+          command-is = at .asks;
+          fits = fits;
+          block-fits = block-fits;
           room = room;
-        })
-        (lit≤ tt) refl refl quiet
+        } in
+        rw (asked-at s t block buffer h, words-asked s t block buffer h, at .asks)
+        (rw (
+          given-at (sure n sub (g .turn + 1)) _ (in-state (g .turn + 1) (omega (arith, at .small))) (at .give)
+              (length-words _ _ ∙ ap (λ (x : Command). messageWords (x .length)) (sym (at .gives))),
+          append-nil (g .refused),
+          append-nil (g .refused ++ crossed hears (f .damage) (settings sets (f .calls) (g .side)) (g .memory) (stream 16 (message t block)) .refused),
+        ))
+
+    readback-leg : Turns w (g .turn) readbackCommand → messageWords (readbackCommand .length) ≤ length buffer → One []
+    unfolding commandFits blockFits isReading
+    readback-leg at room = round-leg readbackCommand [] at refl refl room
+
+    write-leg : (block : List ℕ) → length block ≡ n → Turns w (g .turn) w → messageWords n ≤ length buffer → One block
+    unfolding blockFits isReading
+    write-leg block long at room = round-leg w block at (write-fits n sub n-fits sub-fits) (eq-eqb _ _ long) room
+
+-- ---- all three
+
+-- what befalls the sure write's messages: the device calls nothing before the first
+abbrev pub fatesOf : Damages → Calls → Fates
+fatesOf d calls = record {
+  first = record { calls = []; damage = d .first };
+  second = record { calls = calls .second; damage = d .second };
+  third = record { calls = calls .third; damage = d .third };
+}
+
+module _ (side : Side) (s : side .State) (memory : List ℕ) (sub : ℕ) (block : List ℕ) (b : Buffers) (n-fits : length block ≤ 63) (sub-fits : sub ≤ 255) (room : Room block b)
+    (d : Damages) (calls : Calls) where
+  abbrev middle : Command
+  middle = writeOf (length block) sub
+
+  abbrev goes : Course (side .State) → Going (side .State)
+  goes = going (length block) sub n-fits sub-fits
+
+  abbrev start : Course (side .State)
+  start = record { turn = 0; side = s; memory = memory; calls = []; refused = [] }
+
+  abbrev first : Course (side .State)
+  first = leg (side .hears) (side .sets) middle [] (fatesOf d calls .first) start
+
+  abbrev second : Course (side .State)
+  second = leg (side .hears) (side .sets) middle block (fatesOf d calls .second) first
+
+  abbrev third : Course (side .State)
+  third = leg (side .hears) (side .sets) middle [] (fatesOf d calls .third) second
+
+  -- the first message is followed by the WRITE, unless all is over
+  goes-on : eqb (first .turn) 7 ≡ false → first .turn ≡ 2
+  unfolding leg turnAfter
+  goes-on = go (passes _)
+    where
+      go : (a : Bool) → (let turn : ℕ = cond a 2 7 in eqb turn 7 ≡ false → turn ≡ 2)
+      go true e = refl
+      go false e = never e
+
+  then-last : first .turn ≡ 2 → second .turn ≡ 4
+  unfolding leg turnAfter
+  then-last e = rw e
+
+  abbrev rounds : Going (side .State) → Going (side .State)
+  rounds g =
+      round (side .hears) [] (b .third) (d .third) (between (side .sets) (calls .third)
+      (round (side .hears) block (b .second) (d .second) (between (side .sets) (calls .second) g)))
+
+  first-round : round (side .hears) [] (b .first) (d .first) (goes start) ≡ goes first
+  unfolding between settings
+  first-round =
+      readback-leg (length block) sub n-fits sub-fits (side .hears) (side .sets) (fatesOf d calls .first) (b .first) start (first-turns middle 0 refl) (room .first)
+
+  more-rounds : first .turn ≡ 2 → rounds (goes first) ≡ goes third
+  more-rounds e =
+      ap (λ (g : Going (side .State)). round (side .hears) [] (b .third) (d .third) (between (side .sets) (calls .third) g))
+      (write-leg (length block) sub n-fits sub-fits (side .hears) (side .sets) (fatesOf d calls .second) (b .second) first block refl
+      (middle-turns middle (first .turn) e) (room .second))
+      ∙ readback-leg (length block) sub n-fits sub-fits (side .hears) (side .sets) (fatesOf d calls .third) (b .third) second
+      (last-turns middle (second .turn) (then-last e)) (room .third)
+
+  pub write-legs : sureWrite side s memory sub block b d calls ≡ goes (sureCommand side s memory middle block (fatesOf d calls))
+  unfolding play legs started listed
+  write-legs = rw (write-fits (length block) sub n-fits sub-fits) (rw first-round (go (eqb (first .turn) 7) refl))
+    where
+      go : (a : Bool) → eqb (first .turn) 7 ≡ a → cond a (goes first) (rounds (goes first)) ≡ goes (cond a first third)
+      go true e = refl
+      go false e = more-rounds (goes-on e)

@@ -21,7 +21,7 @@ use Rattle.bits.proofs.Lines.{stream-words, words-below, words-two}
 use Rattle.link.proofs.Laws.{length-flipped, length-filled, filled-kept}
 use Rattle.link.proofs.Spoilt.{token-same, behind-token}
 use Rattle.rules.specs.Rules.{messageWords}
-use Rattle.token.specs.Command.{commandFirst, commandSecond}
+use Rattle.token.specs.Command.{commandFits, commandFirst, commandSecond}
 use Rattle.token.specs.Marks.{at, withCheck}
 use Rattle.token.specs.Response.{responseFirst, responseUpper, responseSecond, goodResponse, responseFields, responseRead, anySet}
 use Rattle.token.specs.declared.command.Command.{Command}
@@ -31,7 +31,7 @@ use Rattle.token.proofs.ResponseTrip.{response-good, response-fields}
 use Rattle.card.specs.Exchange.{responseOf}
 use Rattle.card.specs.declared.Card.{Card}
 use Rattle.controller.specs.Reader.{Answer, readRefusal, tokenGood, payloadGood, fieldsRead, answerRead}
-use Rattle.controller.specs.Sure.{readGood, passes, confirms}
+use Rattle.controller.specs.Sure.{readGood, passes, isToken, confirms}
 use Rattle.delivery.proofs.Judged.{response-check}
 use Rattle.delivery.proofs.Heard.{r₁, r₂, full, mute, full-long, mute-long, Got, Filled, Turned, Muted}
 
@@ -61,13 +61,15 @@ pub record Confirmed (t : Command) (ws : List ℕ) : Type 0 where
   pub agree : crc16 (take 2 (drop 2 ws)) ≡ getD (drop 2 ws) 2 0
   pub status : anySet (responseFields (getD ws 0 0) (getD ws 1 0) .status) ≡ false
   pub first : getD ws 2 0 ≡ commandFirst t
+  pub second : getD ws 3 0 ≡ commandSecond t
 
 pub confirmed : (t : Command) (ws : List ℕ) → length ws ≡ 5 → confirms t ws ≡ true → Confirmed t ws
-unfolding confirms anySet agrees
+unfolding confirms isToken anySet agrees
 confirmed t ws five h =
     let fields : Response = answerRead 2 ws .fields in
-    let (front, _) = both (readGood ws && not (anySet (fields .status)) && eqb (getD ws 2 0) (commandFirst t)) (eqb (getD ws 3 0) (commandSecond t)) h in
-    let (read, first) = both (readGood ws && not (anySet (fields .status))) (eqb (getD ws 2 0) (commandFirst t)) front in
+    let (read, token) = both (readGood ws && not (anySet (fields .status))) (isToken t (getD ws 2 0) (getD ws 3 0)) h in
+    let (front, second) = both (commandFits t && eqb (getD ws 2 0) (commandFirst t)) (eqb (getD ws 3 0) (commandSecond t)) token in
+    let (_, first) = both (commandFits t) (eqb (getD ws 2 0) (commandFirst t)) front in
     let (ok, status) = both (readGood ws) (not (anySet (fields .status))) read in
     let (good, agree) = both (goodResponse (getD ws 0 0) (getD ws 1 0)) (agrees 2 (drop 2 ws)) (sym (read-good ws five) ∙ ok) in
     record {
@@ -75,6 +77,7 @@ confirmed t ws five h =
       agree = eqb-true _ _ (both (ltb 2 (length (drop 2 ws))) _ agree .1);
       status = sym (ap (λ (f : Response). anySet (f .status)) (read-fields ws five good)) ∙ not-true _ status;
       first = eqb-true _ _ first;
+      second = eqb-true _ _ second;
     }
 
 -- ---- the card's own response token
@@ -100,7 +103,7 @@ module _ (c : Card) (fits : c .«module_state» ≤ 15) where
 
 -- ---- bits of the words read
 
-pub word-bit : (line : List Bool) (p i : ℕ) → p + 16 ≤ length line → i < 16 → getD line (p + i) false ≡ getD (bits 16 (number (take 16 (drop p line)))) i false
+word-bit : (line : List Bool) (p i : ℕ) → p + 16 ≤ length line → i < 16 → getD line (p + i) false ≡ getD (bits 16 (number (take 16 (drop p line)))) i false
 word-bit line p i h hi =
     let long : length (take 16 (drop p line)) ≡ 16 = length-take-le 16 (drop p line) (omega (arith, length-drop p line)) in
     sym (getD-take 16 (drop p line) i false hi ∙ getD-drop p line i false)
@@ -135,7 +138,7 @@ module _ (c : Card) (fits : c .«module_state» ≤ 15) (line got : List Bool) (
   filled-first k fill e =
       let s : List Bool = stream 16 (full c) in
       let far : 16 < k
-      = filled-kept k fill 80 s 16 (full-long c) (lit< tt)
+      = filled-kept k fill 80 s 16 17 (full-long c) (lit< tt) (lit< tt)
       (λ q. prefix-bits (getD (words 5 got) 1 0) (good-response _ _ good .prefixes .1)
       (sym (word-bit got 16 0 (omega arith) (lit< tt))
       ∙ ap (λ (x : List Bool). getD x 16 false) e

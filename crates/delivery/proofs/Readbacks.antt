@@ -31,7 +31,7 @@ use Rattle.card.specs.Exchange.{responseOf}
 use Rattle.card.specs.declared.Card.{Card}
 use Rattle.controller.specs.Reader.{answerRead}
 use Rattle.controller.specs.Builder.{payload}
-use Rattle.controller.specs.Sure.{readbackCommand, readGood, passes, confirms}
+use Rattle.controller.specs.Sure.{readbackCommand, readGood, passes, isToken, confirms}
 use Rattle.delivery.specs.Play.{Crossed}
 use Rattle.card.proofs.Holding.{Idle}
 use Rattle.card.proofs.Closed.{acted-last}
@@ -151,11 +151,11 @@ module _ (c : Card) (memory : List ℕ) (idle : Idle c memory) where
   -- the last one confirms the last token, if the status is clean
   pub undamaged-confirms : (t : Command) → CommandFits t → c .port .status ≡ clean → c .port .last ≡ commandToken t
       → confirms t (words 5 (readBack undamaged c memory .got)) ≡ true
-  unfolding confirms shown anySet
+  unfolding confirms isToken shown anySet
   undamaged-confirms t fits s l =
       let one : low (c .port .last .first) ≡ commandFirst t = ap (λ (x : CommandToken). low (x .first)) l ∙ mod-eq-of-lt (first-below t fits) in
       let two : low (c .port .last .second) ≡ commandSecond t = ap (λ (x : CommandToken). low (x .second)) l ∙ mod-eq-of-lt (second-below t fits) in
       let is-clean : answerRead 2 (shown c) .fields .status ≡ clean
       = ap (λ (f : Response). f .status) (read-fields (shown c) refl shown-good) ∙ response-status c (idle .ranged .module-state) _ ∙ s in
       ap (confirms t) words-read
-      ∙ rw (reads-good, ap (λ (x : Status). not (anySet x)) is-clean, eq-eqb _ _ one, eq-eqb _ _ two)
+      ∙ rw (reads-good, ap (λ (x : Status). not (anySet x)) is-clean, fits, eq-eqb _ _ one, eq-eqb _ _ two)

@@ -1,4 +1,4 @@
--- What the device's module-state calls between two messages leave: all but STF and module state.
+-- What the device's module-state calls between two messages do to a card alone: they set STF and module state, and leave all else.
 -- Assumes nothing.
 use Prim.Native.Nat.{ℕ}
 use mathlib.Core.Path.{_≡_, refl, sym, ap, _∙_}
@@ -7,8 +7,7 @@ use mathlib.Core.List.{List, [], _∷_, _++_}
 use lib.Dec.{eqb, leb}
 use Rattle.rules.specs.Refusals as refusal
 use Rattle.card.specs.Card.{givesCard, moduleRefusal, moduleSet}
-use Rattle.card.specs.Run.{Run, Module}
-use Rattle.card.specs.State.{emptied, withModule}
+use Rattle.card.specs.State.{emptied, withModule, outOfRange}
 use Rattle.card.specs.declared.Card.{Card}
 use Rattle.card.specs.declared.CardAfter.{CardAfter}
 use Rattle.card.specs.declared.Message.{Message}
@@ -17,8 +16,10 @@ use Rattle.card.proofs.Cases.{module-case}
 use Rattle.card.proofs.Holding.{Idle}
 use Rattle.card.proofs.Ranges.{module-ranged}
 use Rattle.card.proofs.Sound.{not-out}
+use Rattle.delivery.specs.AnyCommand.{withBase}
 use Rattle.delivery.specs.Play.{ModuleCall, Sets, settings}
 use Rattle.delivery.specs.Delivery.{inWords, Kept}
+use Rattle.delivery.proofs.Kept.{Shut, kept-shut}
 
 -- the card alone, after the device's calls
 abbrev pub deviceSets : Sets Card
@@ -27,7 +28,15 @@ deviceSets = inWords .sets
 abbrev pub afterCalls : List ModuleCall → Card → Card
 afterCalls = settings deviceSets
 
--- all but STF and module state
+-- calls and more of them, to a state of any side
+pub settings-append : {S : Type 0} (sets : Sets S) (calls more : List ModuleCall) (s : S)
+    → settings sets (calls ++ more) s ≡ settings sets more (settings sets calls s)
+unfolding settings
+settings-append sets [] more s = refl
+settings-append sets (m ∷ calls) more s = settings-append sets calls more (sets s (m .stf) (m .state))
+
+-- ---- all but STF and module state
+
 pub record Aside (c c′ : Card) : Type 0 where
   pub size : c′ .size ≡ c .size
   pub bases : c′ .bases ≡ c .bases
@@ -48,41 +57,30 @@ calls-aside (m ∷ calls) c =
     let b = calls-aside calls (moduleSet c (m .stf) (m .state) .card) in
     record { size = b .size ∙ a .size; bases = b .bases ∙ a .bases; time = b .time ∙ a .time; port = b .port ∙ a .port }
 
-pub calls-run : {c : Card} → Run c → (calls : List ModuleCall) → Run (afterCalls calls c)
-unfolding settings
-calls-run r [] = r
-calls-run r (m ∷ calls) = calls-run (Module r (m .stf) (m .state)) calls
+pub set-shut : {c : Card} → Shut c → (stf : Bool) (state : ℕ) → Shut (moduleSet c stf state .card)
+set-shut {c} s stf state =
+    record { ranged = module-ranged c stf state (s .ranged); closed = ap (λ (p : Port). p .message) (set-aside c stf state .port) ∙ s .closed }
 
-set-idle : (c : Card) (memory : List ℕ) → Idle c memory → (stf : Bool) (state : ℕ) → Idle (moduleSet c stf state .card) memory
-set-idle c memory idle stf state =
-    let a = set-aside c stf state in
-    record {
-      ranged = module-ranged c stf state (idle .ranged);
-      closed = ap (λ (p : Port). p .message) (a .port) ∙ idle .closed;
-      lent = idle .lent ∙ sym (a .size);
-    }
+pub calls-shut : {c : Card} → Shut c → (calls : List ModuleCall) → Shut (afterCalls calls c)
+unfolding settings
+calls-shut s [] = s
+calls-shut s (m ∷ calls) = calls-shut (set-shut s (m .stf) (m .state)) calls
 
 pub calls-idle : (c : Card) (memory : List ℕ) → Idle c memory → (calls : List ModuleCall) → Idle (afterCalls calls c) memory
-unfolding settings
-calls-idle c memory idle [] = idle
-calls-idle c memory idle (m ∷ calls) = calls-idle (moduleSet c (m .stf) (m .state) .card) memory (set-idle c memory idle (m .stf) (m .state)) calls
+calls-idle c memory idle calls =
+    let s : Shut (afterCalls calls c) = calls-shut (record { ranged = idle .ranged; closed = idle .closed }) calls in
+    record { ranged = s .ranged; closed = s .closed; lent = idle .lent ∙ sym (calls-aside calls c .size) }
 
-pub calls-append : (calls more : List ModuleCall) (c : Card) → afterCalls (calls ++ more) c ≡ afterCalls more (afterCalls calls c)
-unfolding settings
-calls-append [] more c = refl
-calls-append (m ∷ calls) more c = calls-append calls more (moduleSet c (m .stf) (m .state) .card)
-
--- ---- the same calls to two cards that differ in status bits and last token alone
+-- ---- the same calls to cards that differ in status bits, last token and bases alone
 
 -- what a call does to a card with no message open
-set-number : (c : Card) (memory : List ℕ) → Idle c memory → (state : ℕ) → moduleRefusal c state ≡ cond (leb state 15) refusal.None refusal.Argument
+set-number : {c : Card} → Shut c → (state : ℕ) → moduleRefusal c state ≡ cond (leb state 15) refusal.None refusal.Argument
 unfolding moduleRefusal emptied
-set-number c memory idle state = rw (not-out c (idle .ranged), ap (λ (m : Message). m .opened) (idle .closed))
+set-number {c} s state = rw (not-out c (s .ranged), ap (λ (m : Message). m .opened) (s .closed))
 
-set-closed : (c : Card) (memory : List ℕ) → Idle c memory → (stf : Bool) (state : ℕ)
-    → moduleSet c stf state .card ≡ cond (leb state 15) (withModule c stf state) c
+pub set-closed : {c : Card} → Shut c → (stf : Bool) (state : ℕ) → moduleSet c stf state .card ≡ cond (leb state 15) (withModule c stf state) c
 unfolding moduleSet
-set-closed c memory idle stf state = rw (set-number c memory idle state) (go (leb state 15))
+set-closed {c} s stf state = rw (set-number s state) (go (leb state 15))
   where
     go : (b : Bool)
         → (cond (eqb (cond b refusal.None refusal.Argument) refusal.None) (givesCard refusal.None (withModule c stf state)) (givesCard (cond b refusal.None refusal.Argument) c)) .card
@@ -90,19 +88,30 @@ set-closed c memory idle stf state = rw (set-number c memory idle state) (go (le
     go true = refl
     go false = refl
 
-set-kept : (a b : Card) (memory memory′ : List ℕ) → Idle a memory → Idle b memory′ → Kept a b → (stf : Bool) (state : ℕ)
-    → Kept (moduleSet a stf state .card) (moduleSet b stf state .card)
-set-kept a b memory memory′ idle idle′ k stf state =
-    rw (set-closed a memory idle stf state, set-closed b memory′ idle′ stf state) (go (leb state 15))
+set-kept : {a b : Card} → Shut a → Kept a b → (stf : Bool) (state : ℕ) → Kept (moduleSet a stf state .card) (moduleSet b stf state .card)
+set-kept {a} {b} s k stf state =
+    rw (set-closed s stf state, set-closed (kept-shut s k) stf state) (go (leb state 15))
   where
     go : (t : Bool) → Kept (cond t (withModule a stf state) a) (cond t (withModule b stf state) b)
     go true = record { size = k .size; bases = k .bases; time = k .time; stf = refl; module-state = refl; closed = k .closed }
     go false = k
 
-pub calls-kept : (a b : Card) (memory memory′ : List ℕ) → Idle a memory → Idle b memory′ → Kept a b → (calls : List ModuleCall)
-    → Kept (afterCalls calls a) (afterCalls calls b)
+pub calls-kept : {a b : Card} → Shut a → Kept a b → (calls : List ModuleCall) → Kept (afterCalls calls a) (afterCalls calls b)
 unfolding settings
-calls-kept a b memory memory′ idle idle′ k [] = k
-calls-kept a b memory memory′ idle idle′ k (m ∷ calls) =
-    calls-kept _ _ memory memory′ (set-idle a memory idle (m .stf) (m .state)) (set-idle b memory′ idle′ (m .stf) (m .state))
-    (set-kept a b memory memory′ idle idle′ k (m .stf) (m .state)) calls
+calls-kept s k [] = k
+calls-kept s k (m ∷ calls) = calls-kept (set-shut s (m .stf) (m .state)) (set-kept s k (m .stf) (m .state)) calls
+
+set-based : (base : ℕ) (c : Card) (stf : Bool) (state : ℕ) → moduleSet (withBase base c) stf state .card ≡ withBase base (moduleSet c stf state .card)
+unfolding moduleSet moduleRefusal outOfRange
+set-based base c stf state = go (eqb (moduleRefusal c state) refusal.None)
+  where
+    go : (b : Bool)
+        → (cond b (givesCard refusal.None (withModule (withBase base c) stf state)) (givesCard (moduleRefusal c state) (withBase base c))) .card
+        ≡ withBase base ((cond b (givesCard refusal.None (withModule c stf state)) (givesCard (moduleRefusal c state) c)) .card)
+    go true = refl
+    go false = refl
+
+pub calls-based : (base : ℕ) (calls : List ModuleCall) (c : Card) → afterCalls calls (withBase base c) ≡ withBase base (afterCalls calls c)
+unfolding settings
+calls-based base [] c = refl
+calls-based base (m ∷ calls) c = ap (afterCalls calls) (set-based base c (m .stf) (m .state)) ∙ calls-based base calls (moduleSet c (m .stf) (m .state) .card)

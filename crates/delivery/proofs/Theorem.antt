@@ -1,32 +1,62 @@
--- Demand 3, both halves: for the card alone, word by word, and for the card behind its shifter, bit by bit.
+-- Demand 3, both halves: for the card alone, word by word, and for the card behind its shifter, bit by bit. For any command in the middle, for the
+-- sure write, and for setting the write base.
 -- Assumes nothing.
-use mathlib.Core.Path.{_≡_}
-use Rattle.pins.specs.declared.Pins.{Pins}
-use Rattle.pins.specs.Run.{Module}
-use Rattle.pins.proofs.Pinned.{at-pins, module-at-pins}
+use Rattle.pins.proofs.Pinned.{at-pins}
 use Rattle.pins.proofs.Run.{run-pins, message-run}
+use Rattle.delivery.specs.AnyCommand.{AnyCommand, AnyUndamaged, BaseSetting, BaseUndamaged}
 use Rattle.delivery.specs.Delivery.{inWords, atPins, Delivery, Undamaged}
-use Rattle.delivery.proofs.InWords as words
-use Rattle.delivery.proofs.Sides.{Follows, delivery-follows, undamaged-follows}
-
-pub delivery : Delivery inWords
-delivery = words.delivery
-
-pub undamaged-delivery : Undamaged inWords
-undamaged-delivery = words.undamaged-delivery
+use Rattle.delivery.proofs.AnyCommand as words
+use Rattle.delivery.proofs.Base.{base-holds, base-undamaged}
+use Rattle.delivery.proofs.SideLaws.{lawful-in-words, lawful-at-pins}
+use Rattle.delivery.proofs.Sides.{Follows, any-follows, any-undamaged-follows}
+use Rattle.delivery.proofs.Write.{delivery-holds, undamaged-holds}
 
 -- at the pins a card hears each message as it does alone
 pins-follow : Follows atPins
 pins-follow = record {
-  card-run = λ r. run-pins r .run;
+  lawful = lawful-at-pins;
   same = λ p r memory idle line. at-pins (p .card) memory idle (p .shifter) (run-pins r .in-range) line;
   runs-on = message-run;
-  same-set = λ p r stf state. module-at-pins p (run-pins r .in-range) stf state;
-  runs-set = Module;
 }
 
+-- ---- any command in the middle
+
+pub any-command : AnyCommand inWords
+any-command = words.any-command
+
+pub any-undamaged : AnyUndamaged inWords
+any-undamaged = words.any-undamaged
+
+pub any-at-pins : AnyCommand atPins
+any-at-pins = any-follows atPins pins-follow
+
+pub any-undamaged-at-pins : AnyUndamaged atPins
+any-undamaged-at-pins = any-undamaged-follows atPins pins-follow
+
+-- ---- the sure write
+
+pub delivery : Delivery inWords
+delivery = delivery-holds inWords lawful-in-words any-command
+
+pub undamaged-delivery : Undamaged inWords
+undamaged-delivery = undamaged-holds inWords lawful-in-words any-undamaged
+
 pub delivery-at-pins : Delivery atPins
-delivery-at-pins = delivery-follows atPins pins-follow
+delivery-at-pins = delivery-holds atPins lawful-at-pins any-at-pins
 
 pub undamaged-at-pins : Undamaged atPins
-undamaged-at-pins = undamaged-follows atPins pins-follow
+undamaged-at-pins = undamaged-holds atPins lawful-at-pins any-undamaged-at-pins
+
+-- ---- setting the write base
+
+pub base-in-words : BaseSetting inWords
+base-in-words = base-holds inWords lawful-in-words any-command
+
+pub base-undamaged-in-words : BaseUndamaged inWords
+base-undamaged-in-words = base-undamaged inWords lawful-in-words any-undamaged
+
+pub base-at-pins : BaseSetting atPins
+base-at-pins = base-holds atPins lawful-at-pins any-at-pins
+
+pub base-undamaged-at-pins : BaseUndamaged atPins
+base-undamaged-at-pins = base-undamaged atPins lawful-at-pins any-undamaged-at-pins

@@ -1,2 +1,3 @@
+pub mod AnyCommand
 pub mod Delivery
 pub mod Play

@@ -73,7 +73,7 @@ flip-at (suc i) (b ∷ line) h =
     }
 
 -- a place behind it: none is
-flip-behind : (i : ℕ) (line : List Bool) → length line ≤ i → flipAt i line ≡ line
+pub flip-behind : (i : ℕ) (line : List Bool) → length line ≤ i → flipAt i line ≡ line
 unfolding flipAt
 flip-behind i [] h = refl
 flip-behind zero (b ∷ line) h = absurd (omega arith)
@@ -117,14 +117,14 @@ filled-behind k fill n line p h hn hk =
     ∙ getD-append-add (take k line) (replicate (n - k) fill) (p - k) false
     ∙ getD-replicate (n - k) (p - k) fill false (omega arith)
 
--- two neighbours that differ: the cut is not before them
-pub filled-kept : (k : ℕ) (fill : Bool) (n : ℕ) (line : List Bool) (p : ℕ) → length line ≡ n → suc p < n
-    → (getD (filled k fill n line) p false ≡ getD (filled k fill n line) (suc p) false → ⊥) → p < k
-filled-kept k fill n line p h hn differ =
+-- two places that differ: the cut is not before them
+pub filled-kept : (k : ℕ) (fill : Bool) (n : ℕ) (line : List Bool) (p q : ℕ) → length line ≡ n → p < q → q < n
+    → (getD (filled k fill n line) p false ≡ getD (filled k fill n line) q false → ⊥) → p < k
+filled-kept k fill n line p q h hp hn differ =
     go (leb k p) refl
   where
     go : (b : Bool) → leb k p ≡ b → p < k
     go true e =
         let behind : k ≤ p = leb-true k p e in
-        absurd (differ (filled-behind k fill n line p h (omega arith) behind ∙ sym (filled-behind k fill n line (suc p) h hn (omega arith))))
+        absurd (differ (filled-behind k fill n line p h (omega arith) behind ∙ sym (filled-behind k fill n line q h hn (omega arith))))
     go false e = leb-false k p e

@@ -1,11 +1,12 @@
 // Makes single calls with given arguments and states, refused ones above all, and says what was answered and what was left.
 //
 // A record has 14 bytes: the operation, a byte x, and six numbers p q r s t u of two bytes, the high byte first. Its line is a
-// letter for the operation and then numbers in decimal; a buffer's CRC-16 is four hex digits. Word i of a block, from 0, is
-// i + 1; a buffer holds 0xFFFF everywhere before the call, and memory 7. An unfinished record ends the run.
+// letter for the operation and then numbers in decimal; a buffer's CRC-16, from its last word on, is four hex digits. Word i of
+// a block or table, from 0, is i + 1; a buffer holds 0xFFFF everywhere before the call, and memory 7. An unfinished record ends
+// the run.
 //
 // Setting parts of a state makes states that no run from power-up has: those are refused with State.
-ghost use Prim.Native.Nat.{_≤_};
+ghost use Prim.Native.Nat.{_≤_, _<_};
 ghost use mathlib.Core.Path.{_≡_};
 ghost use lib.ListN.{length};
 use card::Card;
@@ -17,6 +18,10 @@ use controller::SureWrite;
 use controller::Verdict;
 use libc::STDIN_FILENO;
 use libc::STDOUT_FILENO;
+use listed::CardRecord;
+use listed::Cards;
+use loader::Load;
+use loader::Loader;
 use pins::Pins;
 use pins::PinsAfter;
 use rules::refusal;
@@ -48,27 +53,22 @@ fn say_bit(bit: bool) {
     say(bits::digit_of(bit) as usize);
 }
 
-fn glyph(n: u16) -> u8 {
-    let low = (n % 16) as u8;
-    if low < 10 {
-        b'0' + low
-    } else {
-        b'A' - 10 + low
-    }
-}
-
-// The CRC-16 of a buffer.
+// The CRC-16 of a buffer, from its last word to its first. A message ends in the check of its payload, so that from the first
+// word on its CRC-16 would be the same for every payload of a length. No buffer has more than 100 words.
 fn say_check(buffer: &[u16]) {
-    let check = crc::check_words(buffer);
-    write(
-        &[
-            b' ',
-            glyph(check / 4096),
-            glyph(check / 256),
-            glyph(check / 16),
-            glyph(check),
-        ],
-    );
+    let mut back = [0u16; 100];
+    let count = buffer.len();
+    if 100 < count {
+        return;
+    }
+    let mut i: usize = 0;
+    while i < count {
+        back[i] = buffer[count - 1 - i];
+        i += 1;
+    }
+    write(b" ");
+    let digits = text::hex_word(crc::check_words(&back[..count]));
+    write(&digits);
 }
 
 // ---- what is lent
@@ -85,12 +85,12 @@ fn byte_of(number: u16) -> u8 {
     if number < 255 { number as u8 } else { 255 }
 }
 
-fn block_words() -> [u16; 100]
-    ensures { λ r. ⌜ 100 ≡ length r ⌝ }
+fn block_words() -> [u16; 200]
+    ensures { λ r. ⌜ 200 ≡ length r ⌝ }
 {
-    let mut block = [0u16; 100];
+    let mut block = [0u16; 200];
     let mut i: usize = 0;
-    while i < 100 {
+    while i < 200 {
         block[i] = i as u16 + 1;
         i += 1;
     }
@@ -371,6 +371,188 @@ fn on_pins(record: Record) {
     say(shifter.count as usize);
 }
 
+// ---- the loader
+
+// A record as an earlier load may have left it.
+fn earlier(size: u16) -> CardRecord {
+    CardRecord {
+        size: size as u32,
+        verdict: Load::Stopped(9, 9),
+    }
+}
+
+// Its state: stage and turn in x, p cards, length q, card r, place s.
+fn load_of(record: Record) -> Loader {
+    Loader {
+        cards: record.p as u32,
+        length: record.q as u32,
+        card: record.r as u32,
+        place: record.s as u32,
+        stage: record.x / 16,
+        turn: record.x % 16,
+    }
+}
+
+fn say_load(state: Loader) {
+    say(state.cards as usize);
+    say(state.length as usize);
+    say(state.card as usize);
+    say(state.place as usize);
+    say(state.stage as usize);
+    say(state.turn as usize);
+}
+
+fn kind_of(load: Load) -> usize {
+    match load {
+        Load::NotYet => 0,
+        Load::Loaded => 1,
+        Load::Stopped(_, _) => 2,
+    }
+}
+
+// 11: p cards, the smallest of size q, the largest of size r; a table of s words.
+fn start_load(record: Record) {
+    let started = loader::start(
+        record.p as usize,
+        record.q as u32,
+        record.r as u32,
+        record.s as u32,
+    );
+    let load = started.load;
+    write(b"L");
+    say(started.refusal as usize);
+    say_load(started.state);
+    say(kind_of(load));
+}
+
+// 12: the card to be selected, and whether all is over.
+fn look_at_load(record: Record) {
+    let now = loader::card_now(load_of(record));
+    let over = loader::all_over(load_of(record));
+    write(b"O");
+    say(now.refusal as usize);
+    say(now.card as usize);
+    say(over.refusal as usize);
+    say_bit(over.over);
+}
+
+fn ask_load_in(record: Record, table: &[u16], buffer: &mut [u16]) {
+    let asked = loader::ask(load_of(record), table, buffer);
+    let after = asked.state;
+    write(b"K");
+    say(asked.refusal as usize);
+    say(asked.words);
+    say(after.turn as usize);
+    say_check(buffer);
+}
+
+// 13: a table of t words, a buffer of u words.
+fn ask_load(record: Record) {
+    let table = block_words();
+    let mut buffer = [0xFFFFu16; 100];
+    let count = at_most(record.t, 200);
+    let room = at_most(record.u, 100);
+    ask_load_in(record, &table[..count], &mut buffer[..room]);
+}
+
+fn say_verdict_of(load: Load) {
+    say(kind_of(load));
+    match load {
+        Load::NotYet => say_two(0, 0),
+        Load::Loaded => say_two(0, 0),
+        Load::Stopped(place, words) => say_two(place, words),
+    }
+}
+
+fn say_two(place: u32, words: u32) {
+    say(place as usize);
+    say(words as usize);
+}
+
+fn verdict_at(list: Cards, i: usize) -> Load
+    requires { ⌜ i < 255 ⌝ }
+{
+    let records = list.records;
+    let record = records[i];
+    record.verdict
+}
+
+// Whether a record but one no longer has the earlier verdict.
+fn other_changed(list: Cards, one: usize) -> bool {
+    let mut changed = false;
+    let mut i: usize = 0;
+    while i < 255 {
+        changed = changed | ((i != one) & (kind_of(verdict_at(list, i)) != 2));
+        i += 1;
+    }
+    changed
+}
+
+// 14: a list of t records, u words, all 0.
+fn give_load(record: Record) {
+    let words = [0u16; 100];
+    let count = at_most(record.u, 100);
+    let card = earlier(100);
+    let list = Cards {
+        count: at_most(record.t, 255) as u32,
+        records: [card; 255],
+    };
+    let done = listed::give_copy(list, load_of(record), &words[..count]);
+    let given = done.given;
+    let after = given.state;
+    let cards = done.cards;
+    write(b"J");
+    say(given.refusal as usize);
+    say(after.card as usize);
+    say(after.place as usize);
+    say(after.stage as usize);
+    say(after.turn as usize);
+    let served = at_most(record.r, 254);
+    if (record.r as usize) < at_most(record.t, 255) {
+        say_verdict_of(verdict_at(cards, served));
+    } else {
+        say_verdict_of(Load::NotYet);
+    }
+    say_bit(other_changed(cards, served));
+}
+
+// A list of so many records: the first of size q, the last of size s, the others of size r.
+fn list_of(record: Record, count: usize) -> Cards
+    requires { ⌜ count ≤ 255 ⌝ }
+{
+    let other = earlier(record.r);
+    let mut records = [other; 255];
+    let mut i: usize = 0;
+    while i < 255 {
+        if i + 1 == count {
+            records[i] = earlier(record.s);
+        }
+        i += 1;
+    }
+    records[0] = earlier(record.q);
+    Cards {
+        count: count as u32,
+        records,
+    }
+}
+
+// 15: a list of p records, a table of t words.
+fn start_list(record: Record) {
+    let count = at_most(record.p, 255);
+    let done = listed::start_copy(list_of(record, count), record.t as u32);
+    let started = done.started;
+    let cards = done.cards;
+    write(b"H");
+    say(started.refusal as usize);
+    say_load(started.state);
+    if count == 0 {
+        say_two(0, 0);
+    } else {
+        say(kind_of(verdict_at(cards, 0)));
+        say(kind_of(verdict_at(cards, count - 1)));
+    }
+}
+
 // ---- reading
 
 fn record_of(bytes: [u8; 14]) -> Record {
@@ -398,7 +580,12 @@ fn call(record: Record) {
         7 => verdict(record),
         8 => on_card(record),
         9 => on_shifter(record),
-        _ => on_pins(record),
+        10 => on_pins(record),
+        11 => start_load(record),
+        12 => look_at_load(record),
+        13 => ask_load(record),
+        14 => give_load(record),
+        _ => start_list(record),
     }
     write(b"\n");
 }

@@ -13,9 +13,34 @@ use Rattle.controller.specs.declared.Started.the-variants as started-as
 use Rattle.controller.specs.declared.Verdict.{Verdict}
 use Rattle.controller.specs.declared.Verdict.the-variants as verdict-as
 use Rattle.sure.proofs.ask.Reads as ask
+use Rattle.sure.proofs.build_turn.Reads as build-turn
+use Rattle.sure.proofs.command_at.Reads as command-at
 use Rattle.sure.proofs.give.Reads as give
+use Rattle.sure.proofs.is_ask.Reads as is-ask
+use Rattle.sure.proofs.is_give.Reads as is-give
 use Rattle.sure.proofs.start.Reads as start
+use Rattle.sure.proofs.turn_after.Reads as turn-after
 use Rattle.sure.proofs.verdict.Reads as verdict
+
+-- ---- any command in the middle
+
+pub one-command-at : (κs : _) (a : _) (r s : _) (e f : _) → command-at.Post κs a r e → command-at.Post κs a s f → r ≡ s
+one-command-at κs a r s e f p q = p ∙ sym q
+
+pub one-is-ask : (κs : _) (a : _) (r s : _) (e f : _) → is-ask.Post κs a r e → is-ask.Post κs a s f → r ≡ s
+one-is-ask κs a r s e f p q = p ∙ sym q
+
+pub one-is-give : (κs : _) (a : _) (r s : _) (e f : _) → is-give.Post κs a r e → is-give.Post κs a s f → r ≡ s
+one-is-give κs a r s e f p q = p ∙ sym q
+
+pub one-build-turn : (κs : _) (a : _) (r s : _) (e f : _) → build-turn.Post κs a r e → build-turn.Post κs a s f
+    → (r ≡ s) × (now (e .1 .1 .1 .0) ≡ now (f .1 .1 .1 .0))
+one-build-turn κs a r s e f p q = (p .0 ∙ sym (q .0), p .1 ∙ sym (q .1))
+
+pub one-turn-after : (κs : _) (a : _) (r s : _) (e f : _) → turn-after.Post κs a r e → turn-after.Post κs a s f → r ≡ s
+one-turn-after κs a r s e f p q = p ∙ sym q
+
+-- ---- the sure write
 
 startedOf : Start → Started
 startedOf s = cond (eqb (s .refusal) refusal.Argument) started-as.Argument (started-as.Sure (s .state))

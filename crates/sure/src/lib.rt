@@ -1,12 +1,11 @@
 // The sure write: READBACK, WRITE, READBACK. The rules hold for any command in the middle, of which WRITE is one use.
 ghost use mathlib.Core.Path.{_≡_};
-ghost use mathlib.Core.Bool.{true, false, cond, _&&_};
-ghost use lib.Dec.{eqb};
+ghost use mathlib.Core.Bool.{true, false, cond};
 ghost use lib.ListN.{length, getD};
 ghost use Rattle.rules.specs.Rules.{write};
-ghost use Rattle.token.specs.Command.{command, tokenOf, commandFits, commandFirst, commandSecond};
+ghost use Rattle.token.specs.Command.{command, tokenOf, commandFits};
 ghost use Rattle.controller.specs.Builder.{messageBuilt, bufferAfter};
-ghost use Rattle.controller.specs.Sure.{readbackCommand, commandAt, isAsk, isGive, readGood, passes, confirms, turnAfter, writeCommand, withTurn, startedGives, started, outOfRange, asked, askedBuffer, given, verdictGives, verdictOf};
+ghost use Rattle.controller.specs.Sure.{readbackCommand, commandAt, isAsk, isGive, readGood, passes, isToken, confirms, turnAfter, writeCommand, withTurn, startedGives, started, outOfRange, asked, askedBuffer, given, verdictGives, verdictOf};
 use builder::build;
 use controller::Asked;
 use controller::Given;
@@ -26,21 +25,21 @@ use token::command::CommandToken;
 use token::response::any_set;
 
 // The turns: each message is asked for, and then the words that came back with it are given.
-const ASK_FIRST: u8 = 0;
+pub const ASK_FIRST: u8 = 0;
 
 const GIVE_FIRST: u8 = 1;
 
-const ASK_COMMAND: u8 = 2;
+pub const ASK_COMMAND: u8 = 2;
 
 const GIVE_COMMAND: u8 = 3;
 
 const ASK_LAST: u8 = 4;
 
-const GIVE_LAST: u8 = 5;
+pub const GIVE_LAST: u8 = 5;
 
-const DONE: u8 = 6;
+pub const DONE: u8 = 6;
 
-const UNSURE: u8 = 7;
+pub const UNSURE: u8 = 7;
 
 // ---- any command in the middle
 
@@ -57,7 +56,7 @@ fn readback() -> Command
 }
 
 // The command of a turn's message.
-fn command_at(middle: Command, turn: u8) -> Command
+pub fn command_at(middle: Command, turn: u8) -> Command
     ensures { λ r. ⌜ r ≡ commandAt middle turn ⌝ }
 {
     if (turn == ASK_COMMAND) | (turn == GIVE_COMMAND) {
@@ -66,20 +65,22 @@ fn command_at(middle: Command, turn: u8) -> Command
     readback()
 }
 
-fn is_ask(turn: u8) -> bool
+// Whether a message is asked for at a turn.
+pub fn is_ask(turn: u8) -> bool
     ensures { λ r. ⌜ r ≡ isAsk turn ⌝ }
 {
     (turn == ASK_FIRST) | (turn == ASK_COMMAND) | (turn == ASK_LAST)
 }
 
-fn is_give(turn: u8) -> bool
+// Whether words are given at a turn.
+pub fn is_give(turn: u8) -> bool
     ensures { λ r. ⌜ r ≡ isGive turn ⌝ }
 {
     (turn == GIVE_FIRST) | (turn == GIVE_COMMAND) | (turn == GIVE_LAST)
 }
 
 // Lays the message that a turn asks for.
-fn build_turn(middle: Command, turn: u8, block: &[u16], buffer: &mut [u16]) -> MessageBuilt
+pub fn build_turn(middle: Command, turn: u8, block: &[u16], buffer: &mut [u16]) -> MessageBuilt
     ensures { λ r. ⌜ r ≡ messageBuilt (commandAt middle turn) (now (block .entry)) (length (now (buffer .entry))) ⌝ }
     ensures { λ _. ⌜ now (buffer .exit) ≡ bufferAfter (commandAt middle turn) (now (block .entry)) (now (buffer .entry)) ⌝ }
 {
@@ -105,10 +106,9 @@ fn shown_token(words: &[u16]) -> CommandToken
     }
 }
 
-// Whether a token is that of a command.
+// Whether a token is that of a command. A command that does not fit has none.
 fn is_token(command: Command, shown: CommandToken) -> bool
-    requires { ⌜ commandFits command ≡ true ⌝ }
-    ensures { λ r. ⌜ r ≡ (eqb (shown .first) (commandFirst command) && eqb (shown .second) (commandSecond command)) ⌝ }
+    ensures { λ r. ⌜ r ≡ isToken command (shown .first) (shown .second) ⌝ }
 {
     let CommandBuilt::Token(token) = CommandToken::new(
         command.code as u32,
@@ -136,7 +136,6 @@ fn after_first(words: &[u16]) -> u8
 
 // The turn after the last READBACK's words.
 fn after_last(middle: Command, words: &[u16]) -> u8
-    requires { ⌜ commandFits middle ≡ true ⌝ }
     ensures { λ r. ⌜ r ≡ cond (confirms middle (now (words .entry))) 6 7 ⌝ }
 {
     let Reading::Good(fields) = read_answer(words, readback().length as u32) else {
@@ -146,9 +145,9 @@ fn after_last(middle: Command, words: &[u16]) -> u8
     if sure { DONE } else { UNSURE }
 }
 
-// The turn after the words of a turn. Those that come back with the command are not judged.
-fn turn_after(middle: Command, turn: u8, words: &[u16]) -> u8
-    requires { ⌜ commandFits middle ≡ true ⌝ }
+// The turn after the words of a turn. Those that come back with the command are not judged; at any turn but GIVE_FIRST and
+// GIVE_COMMAND they count as the last READBACK's.
+pub fn turn_after(middle: Command, turn: u8, words: &[u16]) -> u8
     ensures { λ r. ⌜ r ≡ turnAfter middle turn (now (words .entry)) ⌝ }
 {
     if turn == GIVE_FIRST {

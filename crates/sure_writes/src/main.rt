@@ -15,6 +15,7 @@ ghost use lib.ListN.{length};
 use controller::Started;
 use controller::SureWrite;
 use controller::Verdict;
+use crossing::Damage;
 use libc::STDIN_FILENO;
 use libc::STDOUT_FILENO;
 use pins::Pins;
@@ -24,32 +25,13 @@ use text::Line;
 
 const PREPARE: u8 = 0x40;
 
-const UNSEEN: u8 = 0;
-
-const CUT: u8 = 1;
-
-const FLIPPED: u8 = 2;
-
-// A place behind the last bit flips nothing.
-struct Damage {
-    kind: u8,
-    fill: bool,
-    there: usize,
-    back: usize,
-}
-
+// A place behind a message's last bit flips nothing.
 const UNDAMAGED: Damage = Damage {
-    kind: FLIPPED,
+    kind: crossing::FLIPPED,
     fill: false,
     there: 65535,
     back: 65535,
 };
-
-// The state after some bits, and the bits that the controller read, as a number.
-struct Heard {
-    pins: Pins,
-    got: u16,
-}
 
 // Where a sure write stands: its state, and the card's.
 struct Going {
@@ -73,70 +55,12 @@ fn note(number: u8) {
     }
 }
 
-fn is_seen(damage: Damage, i: usize) -> bool {
-    if damage.kind == UNSEEN {
-        return false;
-    }
-    (damage.kind != CUT) | (i < damage.there)
-}
-
-fn is_flipped(damage: Damage, place: usize, i: usize) -> bool {
-    (damage.kind != CUT) & (i == place)
-}
-
-// A word from its first bit on, which is bit `from` of the message.
-fn cross_word(pins: Pins, memory: &[u16], word: u16, from: usize, damage: Damage) -> Heard
-    requires { ⌜ from ≤ 2000 ⌝ }
-{
-    let mut state = pins;
-    let mut got: u16 = 0;
-    let mut rest = word;
-    let mut j: usize = 0;
-    while j < 16 {
-        let i = from + j;
-        j += 1;
-        let mut read = damage.fill;
-        if is_seen(damage, i) {
-            let bit = (32768 <= rest) ^ is_flipped(damage, damage.there, i);
-            let clocked = pins::clock(state, memory, bit);
-            note(clocked.refusal);
-            state = clocked.pins;
-            read = clocked.bit ^ is_flipped(damage, damage.back, i);
-        }
-        rest = rest % 32768 * 2;
-        got = got % 32768 * 2 + bits::digit_of(read) as u16;
-    }
-    Heard { pins: state, got }
-}
-
-// The words of a message, one after the other.
-fn cross_words(pins: Pins, memory: &[u16], sent: &[u16], got: &mut [u16], damage: Damage) -> Pins
-    requires { ⌜ (length (now sent) ≤ 66) × (length (now got) ≡ 66) ⌝ }
-{
-    let mut state = pins;
-    let mut k: usize = 0;
-    while k < sent.len() {
-        let heard = cross_word(state, memory, sent[k], 16 * k, damage);
-        state = heard.pins;
-        got[k] = heard.got;
-        k += 1;
-    }
-    state
-}
-
-// A whole message. One that is unseen has no select.
-fn cross(pins: Pins, memory: &mut [u16], sent: &[u16], got: &mut [u16], damage: Damage) -> Pins
-    requires { ⌜ (length (now sent) ≤ 66) × (length (now got) ≡ 66) ⌝ }
-{
-    if damage.kind == UNSEEN {
-        return cross_words(pins, memory, sent, got, damage);
-    }
-    let selected = pins::select(pins);
-    note(selected.refusal);
-    let state = cross_words(selected.pins, memory, sent, got, damage);
-    let released = pins::release(state, memory);
-    note(released.refusal);
-    released.pins
+// A message crosses; a refusal, the call's own or the card's, is a line.
+fn cross(pins: Pins, memory: &mut [u16], sent: &[u16], got: &mut [u16], damage: Damage) -> Pins {
+    let across = crossing::cross(pins, memory, sent, got, damage);
+    note(across.refusal);
+    note(across.card);
+    across.pins
 }
 
 // One message of a sure write: it is asked for, crosses the line, and the words that were read are given back.

@@ -8,6 +8,7 @@ use Rattle.text.specs.Letters as letter
 use Rattle.text.specs.Lines.{Shown, lineGives}
 use Rattle.text.specs.declared.Line.{Line}
 use Rattle.text.specs.declared.Line.the-variants.{Selected, Taken, Released, ModuleSet, Refused}
+use Rattle.text.proofs.hex_word.Reads as hex-word
 use Rattle.text.proofs.line_text.Reads as line-text
 use Rattle.text.proofs.put_line.Reads as put-line
 use Rattle.text.proofs.record_of.Reads as record-of
@@ -35,6 +36,9 @@ one-line l m e = sym (back l) ∙ ap lineOf e ∙ back m
 
 pub one-record-of : (κs : _) (a : _) (r s : _) (e f : _) → record-of.Post κs a r e → record-of.Post κs a s f → r ≡ s
 one-record-of κs a r s e f p q = p ∙ sym q
+
+pub one-hex-word : (κs : _) (a : _) (r s : _) (e f : _) → hex-word.Post κs a r e → hex-word.Post κs a s f → r ≡ s
+one-hex-word κs a r s e f p q = p ∙ sym q
 
 pub one-line-text : (κs : _) (a : _) (r s : _) (e f : _) → line-text.Post κs a r e → line-text.Post κs a s f → r ≡ s
 one-line-text κs a r s e f p q = p ∙ sym q

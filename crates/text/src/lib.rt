@@ -68,7 +68,7 @@ fn hex_digit(n: u16) -> u8
     b'A' - 10 + low
 }
 
-fn hex_word(word: u16) -> [u8; 4]
+pub fn hex_word(word: u16) -> [u8; 4]
     ensures { λ r. ⌜ r ≡ hexWord word ⌝ }
 {
     [

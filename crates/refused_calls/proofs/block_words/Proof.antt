@@ -1,4 +1,4 @@
--- `refused_calls::block_words` is safe and ends: each turn puts one of 100 words.
+-- `refused_calls::block_words` is safe and ends: each turn puts one of 200 words.
 -- Assumes nothing.
 use borrow.Author.Needs.{needs}
 use Prim.Native.Nat.{_-_}
@@ -8,10 +8,10 @@ use Rattle.refused_calls.proofs.block_words.Statement.{statement}
 use Rattle.refused_calls.proofs.block_words.Tie as tie
 
 abbrev Inv-loop : tie.InvT-loop
-Inv-loop block₀ i₀ block i = length block ≡ 100
+Inv-loop block₀ i₀ block i = length block ≡ 200
 
 abbrev μ-loop : tie.MeasureT-loop
-μ-loop block₀ i₀ block i = 100 - i
+μ-loop block₀ i₀ block i = 200 - i
 
 pub block-words-spec : {M : Type 1} → statement M
 block-words-spec =

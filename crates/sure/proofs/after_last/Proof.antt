@@ -1,15 +1,13 @@
 -- `sure::after_last` meets its contract: the answer reader says which case holds, and then status and token.
 -- Assumes nothing.
-use mathlib.Core.Bool.{not, _&&_, and-assoc}
+use mathlib.Core.Bool.{not, _&&_}
 use mathlib.Core.Path.{_≡_, sym, ap, _∙_}
 use borrow.Author.Needs.{needs}
-use lib.Dec.{eqb}
 use lib.ListN.{getD}
-use Rattle.token.specs.Command.{commandFirst, commandSecond}
 use Rattle.token.specs.Response.{anySet}
 use Rattle.token.specs.declared.response.Response.{Response}
 use Rattle.controller.specs.Reader.{readingGives, answerRead}
-use Rattle.controller.specs.Sure.{readGood, confirms}
+use Rattle.controller.specs.Sure.{readGood, isToken, confirms}
 use Rattle.controller.proofs.AnswerLaws.{GoodAnswer, answer-good, answer-not-good}
 use Rattle.sure.proofs.after_last.Statement.{statement}
 use Rattle.sure.proofs.after_last.Tie as tie
@@ -42,12 +40,11 @@ judged p =
     let a = start (p .before .before .before .before .before .before) .args in
     let known = good (p .before .before .before .before) in
     let unclean = anySet (answerRead 2 (a .words .now) .fields .status) in
-    let first = eqb (getD (a .words .now) 2 0) (commandFirst (a .middle)) in
-    let second = eqb (getD (a .words .now) 3 0) (commandSecond (a .middle)) in
     let set : p .before .before .any-set .result ≡ unclean
     = p .before .before .any-set .ensures ∙ ap (λ (f : Response). anySet (f .status)) (sym (known .fields)) in
-    let same : p .is-token .result ≡ (first && second) = rw (p .before .shown-token .ensures) at (p .is-token .ensures) in
-    rw (known .shown, same, set) (and-assoc (not unclean) first second)
+    let same : p .is-token .result ≡ isToken (a .middle) (getD (a .words .now) 2 0) (getD (a .words .now) 3 0)
+    = rw (p .before .shown-token .ensures) at (p .is-token .ensures) in
+    rw (known .shown, same, set)
 
 returns-2 : tie.Need-returns-2
 returns-2 c = rw (judged (c .before) ∙ c .if1 .taken)

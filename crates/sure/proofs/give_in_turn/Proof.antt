@@ -6,7 +6,7 @@ use Rattle.rules.specs.Rules.{messageWords}
 use Rattle.token.specs.declared.command.Command.{Command}
 use Rattle.controller.specs.Sure.{commandAt, turnAfter, writeCommand}
 use Rattle.controller.specs.declared.SureWrite.{SureWrite}
-use Rattle.sure.proofs.TurnLaws.{in-state, given-miscounted, given-taken}
+use Rattle.sure.proofs.TurnLaws.{given-miscounted, given-taken}
 use Rattle.sure.proofs.give_in_turn.Statement.{statement}
 use Rattle.sure.proofs.give_in_turn.Tie as tie
 
@@ -30,11 +30,6 @@ returns c =
     let s = start p in
     sym (given-miscounted (state p) (s .args .words .now) (s .pre .0) (s .pre .1) (λ same. c .if1 .taken (same ∙ sym (asked-for p))))
 
-turn-after-requires : tie.Need-turn-after-requires
-turn-after-requires c κs =
-    let s = start (c .before) in
-    rw (c .before .before .before .write-command .ensures) (in-state (s .args .state) (s .pre .0) .fits)
-
 returns-2 : tie.Need-returns-2
 returns-2 c =
     let p = c .before .before .before in
@@ -51,6 +46,6 @@ give-in-turn-spec =
     (λ c κs. search needs)
     (λ c κs. search needs)
     returns
-    turn-after-requires
+    (λ c κs. search needs)
     (λ c κs. search needs)
     returns-2)

@@ -1,17 +1,13 @@
--- `sure_writes::round` is safe: the message fits both buffers.
+-- `sure_writes::round` is safe: the message lies in the buffer, and its answer in the other.
 -- Assumes nothing.
 use native.Mathlib.Omega.{arith}
 use borrow.Author.Needs.{needs}
-use mathlib.Core.Path.{refl}
 use lib.ListN.{length-take}
 use Rattle.sure_writes.proofs.round.Statement.{statement}
 use Rattle.sure_writes.proofs.round.Tie as tie
 
 slice-aggregate-cross : tie.Need-slice-aggregate-cross
 slice-aggregate-cross c = simp length-take (omega arith)
-
-cross-requires : tie.Need-cross-requires
-cross-requires c κs = (simp length-take (omega arith), refl)
 
 slice-aggregate-give : tie.Need-slice-aggregate-give
 slice-aggregate-give c = simp length-take (omega arith)
@@ -27,7 +23,7 @@ round-spec =
     (λ c. search needs)
     slice-aggregate-cross
     (λ c. search needs)
-    cross-requires
+    (λ c κs. search needs)
     (λ c. search needs)
     slice-aggregate-give
     (λ c κs. search needs)

@@ -1,8 +1,7 @@
--- `sure_writes::set_base` is safe: the message fits both buffers.
+-- `sure_writes::set_base` is safe: the message lies in the buffer.
 -- Assumes nothing.
 use borrow.Author.Needs.{needs}
 use native.Mathlib.Omega.{arith}
-use mathlib.Core.Path.{refl}
 use lib.ListN.{length-take}
 use Rattle.sure_writes.proofs.set_base.Statement.{statement}
 use Rattle.sure_writes.proofs.set_base.Tie as tie
@@ -21,6 +20,6 @@ set-base-spec =
     (λ c. search needs)
     (λ c. simp length-take (omega arith))
     (λ c. search needs)
-    (λ c κs. (simp length-take (omega arith), refl))
+    (λ c κs. search needs)
     (λ c. search needs)
     (λ c. search needs))

@@ -1,0 +1,11 @@
+pub mod Blocks
+pub mod Cards
+pub mod Ends
+pub mod Examples
+pub mod Known
+pub mod OneCard
+pub mod Others
+pub mod Reach
+pub mod Rounds
+pub mod Theorem
+pub mod Whole

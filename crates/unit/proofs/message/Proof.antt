@@ -1,0 +1,37 @@
+-- `unit::message` is safe: the message fits both buffers.
+-- Assumes nothing.
+use native.Mathlib.Omega.{arith}
+use borrow.Author.Needs.{needs}
+use lib.ListN.{length-take}
+use Rattle.unit.proofs.message.Statement.{statement}
+use Rattle.unit.proofs.message.Tie as tie
+
+slice-aggregate-cross : tie.Need-slice-aggregate-cross
+slice-aggregate-cross c = simp length-take (omega arith)
+
+slice-aggregate-give-copy : tie.Need-slice-aggregate-give-copy
+slice-aggregate-give-copy c = simp length-take (omega arith)
+
+pub message-spec : {M : Type 1} → statement M
+message-spec =
+    tie.close
+    (tie.spec
+    (λ c κs. search needs)
+    (λ c κs. search needs)
+    (λ c. search needs)
+    (λ c κs. search needs)
+    (λ c κs. search needs)
+    (λ c. search needs)
+    (λ c κs. search needs)
+    (λ c. search needs)
+    (λ c. search needs)
+    slice-aggregate-cross
+    (λ c. search needs)
+    (λ c κs. search needs)
+    (λ c. search needs)
+    slice-aggregate-give-copy
+    (λ c κs. search needs)
+    (λ c κs. search needs)
+    (λ c κs. search needs)
+    (λ c. search needs)
+    (λ c. search needs))

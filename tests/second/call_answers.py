@@ -1,0 +1,19 @@
+"""What the answers to single calls have in common: the refusal numbers and their order, and a buffer's check."""
+
+from .checks import crc16
+
+SIZE, STATE, OPEN, CLOSED, ARGUMENT, ROOM, TURN, COUNT = range(1, 9)
+ORDER = (STATE, SIZE, OPEN, CLOSED, TURN, ARGUMENT, COUNT, ROOM)
+
+MOST_SIZE = 32768
+
+
+def refusal(faults):
+    """The number of the first fault in document 01's order, 0 where there is none."""
+    return next((number for number in ORDER if faults.get(number)), 0)
+
+
+def check(buffer):
+    """The CRC-16 of the buffer's words, from the last to the first."""
+    # A message ends in the check of its own payload: from the first word its CRC-16 would not depend on the payload.
+    return f"{crc16(buffer[::-1]):04X}"
