@@ -1,7 +1,9 @@
-"""The card of document 01, section "The card": whole messages, each judged and answered at once."""
+"""The card of document 01, section "The card", with the byte addresses of request 2: whole messages, each judged and
+answered at once."""
 
 from typing import NamedTuple
 
+from .addresses import is_odd, word_address
 from .checks import crc16
 from .tokens import (
     CONFIG_READ, CONFIG_WRITE, READ, READBACK, RESET, ROWS, SYNCH, TICK, WRITE,
@@ -73,7 +75,9 @@ def as_row_asks(card, words, left):
 def inside_memory(card, words, left):
     """Step 3."""
     code, length, _ = command(words)
-    return AR if code in (WRITE, READ) and start(card, words) + length > card.size else CLEAN
+    if code not in (WRITE, READ):
+        return CLEAN
+    return AR if is_odd(base(card, words)) or start(card, words) + length > card.size else CLEAN
 
 
 def whole_words(card, words, left):
@@ -118,10 +122,16 @@ def command(words):
     return read_command(*words[:2])
 
 
+def base(card, words):
+    """The base of READ or WRITE, in bytes."""
+    code, *_ = command(words)
+    return card.read_base if code == READ else card.write_base
+
+
 def start(card, words):
     """Where the words of READ or WRITE begin in the memory."""
-    code, _, sub_address = command(words)
-    return sub_address + (card.read_base if code == READ else card.write_base)
+    *_, sub_address = command(words)
+    return word_address(base(card, words), sub_address)
 
 
 # Words sent.

@@ -1,12 +1,13 @@
-"""The values printed in document 01, and the test of this program against them."""
+"""The values printed in document 01, some of request 2 worked by hand, and the test of this program against them."""
 
+from .addresses import base_of
 from .card import AR, CLEAN, IC, ME, Card, judge, whole_message
 from .checks import crc4, crc16
 from .tokens import (
     CONFIG_WRITE, READ, READBACK, RESET, ROWS, SYNCH, TICK, WRITE,
     command_marks, command_token, read_command, read_response, response_marks, response_token,
 )
-from .trace_records import read, write
+from .trace_records import config_write, read, write
 
 # (code, length, sub-address), (word 1, word 2)
 COMMANDS = [
@@ -50,13 +51,30 @@ JUDGED = [
     ([*write(0, [1]), 0], ME),
 ]
 
+# Request 2, with a memory of 256 words: write base, read base, the words of a message, and the status bits it sets.
+JUDGED_BY_BASES = [
+    (1, 0, write(0, []), AR),
+    (1, 0, read(0, 0), CLEAN),
+    (0, 1, write(0, []), CLEAN),
+    (0, 1, read(0, 0), AR),
+    (510, 0, write(0, [1]), CLEAN),
+    (510, 0, write(1, [1]), AR),
+    (0, 386, read(63, 0), CLEAN),
+    (0, 388, read(63, 0), AR),
+    (512, 512, write(0, []), CLEAN),
+    (512, 512, read(1, 0), AR),
+    (513, 513, read(1, 0), AR),
+    (0xFFFFFFFE, 0xFFFFFFFE, write(1, []), AR),
+    (0xFFFFFFFF, 0xFFFFFFFF, config_write(1), CLEAN),
+]
+
 GOOD = (True, True, True)
 
 
 def agree(what, found, wanted):
     # Not an assert statement: python -O would leave it out.
     if found != wanted:
-        raise AssertionError(f"{what}: document 01 has {wanted}, this program {found}")
+        raise AssertionError(f"{what}: the documents have {wanted}, this program {found}")
 
 
 def test_commands():
@@ -93,6 +111,19 @@ def test_table():
 def test_judgement():
     for words, status in JUDGED:
         agree(f"status bits after {words}", judge(Card(256), words, 0), status)
+    for write_base, read_base, words, status in JUDGED_BY_BASES:
+        card = Card(256, write_base=write_base, read_base=read_base)
+        agree(f"status bits after {words} with {card}", judge(card, words, 0), status)
+
+
+def test_byte_bases():
+    """Base 6 is word 3 and base 2 word 1; sub-address 1 is the word behind."""
+    memory, card = [100, 101, 102, 103, 104, 105, 106], Card(7, write_base=6, read_base=2)
+    sent, _, _ = whole_message(card, read(2, 1), 0, [memory] * 6)
+    agree("words sent by READ", sent[2:4], [102, 103])
+    _, _, after = whole_message(card, write(1, [7, 8]), 0, [memory] * 6)
+    agree("memory after WRITE", after, [100, 101, 102, 103, 7, 8, 106])
+    agree("bases of a table's blocks", [base_of(place) for place in (0, 63, 126)], [0, 126, 252])
 
 
 def test_changing_memory():
@@ -106,10 +137,11 @@ def test_changing_memory():
 
 
 def self_test():
-    """Raises AssertionError where a value of document 01 is not met."""
+    """Raises AssertionError where a value of the documents is not met."""
     test_commands()
     test_responses()
     test_checks()
     test_table()
     test_judgement()
+    test_byte_bases()
     test_changing_memory()

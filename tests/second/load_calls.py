@@ -3,6 +3,7 @@
 from itertools import product
 from typing import NamedTuple
 
+from .addresses import base_of
 from .call_answers import ARGUMENT, COUNT, MOST_SIZE, ROOM, SIZE, STATE, TURN, check, refusal
 from .load_records import (
     ASKING, GIVING, LENGTHS, LISTED, STAGES, WORDS, ListStart, LoadAsk, LoadGive, LoadStart, WhichCard, all_records,
@@ -119,7 +120,9 @@ def turn_faults(load, turns):
 def message(load, table):
     if load.turn != 2:
         return readback()
-    return write(0, table[load.place:load.place + BLOCK]) if load.stage == WORDS else config_write(load.place)
+    if load.stage == WORDS:
+        return write(0, table[load.place:load.place + BLOCK])
+    return config_write(base_of(load.place))
 
 
 def words_of_turn(load):

@@ -4,9 +4,10 @@ from functools import lru_cache
 from itertools import product
 from typing import NamedTuple
 
+from .addresses import is_odd, word_address
 from .card import CLEAN, Card, whole_message, with_module
 from .checks import bits, crc16, number
-from .sure_records import CALM, CUT, MEMORY, UNDAMAGED, UNSEEN, Prepare, all_records, packed
+from .sure_records import CALM, CUT, FLIPPED, MEMORY, UNDAMAGED, UNSEEN, Prepare, all_records, packed
 from .tokens import read_command, read_response
 from .trace_records import config_read, config_write, readback, write
 
@@ -144,10 +145,11 @@ def test_prepared(record, memory, end):
 
 
 def test_verdict(record, card, memory, end):
-    """Demand 3, and that an undamaged sure write of a block inside the memory is Done."""
-    start = card.write_base + record.sub_address
+    """Demand 3, and that an undamaged sure write of a block inside the memory is Done. With an odd write base no block
+    is inside: it is never Done, and the memory is old."""
+    start = word_address(card.write_base, record.sub_address)
     behind = start + len(record.block)
-    inside = behind <= MEMORY
+    inside = behind <= MEMORY and not is_odd(card.write_base)
     written = inside and end.memory == [*memory[:start], *record.block, *memory[behind:]]
     if not written and (end.verdict == DONE or end.memory != memory):
         raise AssertionError(f"{end.verdict} is not true: {record} with {card}")
@@ -169,13 +171,29 @@ def test_every_end(found):
         raise AssertionError(f"no sure write with these ends: {sorted(wanted - found)}")
 
 
+def lone_damage(record):
+    """Which message of a sure write is damaged, and how, where one is; CALM where none is, and None for several."""
+    found = [(at, min(damage[0], FLIPPED)) for at, damage in enumerate(record.damages) if damage != UNDAMAGED]
+    return CALM if not found else found[0] if len(found) == 1 else None
+
+
+def test_odd_bases(found):
+    """With an odd write base, nothing damaged and each message alone in each way."""
+    wanted = {CALM, *product(range(3), (UNSEEN, CUT, FLIPPED))}
+    if not wanted <= found:
+        raise AssertionError(f"no sure write with an odd base and these damages: {wanted - found}")
+
+
 def self_test():
-    """Raises AssertionError where a verdict does not mean what it has to, or one of the ends is missing."""
-    found = set()
+    """Raises AssertionError where a verdict does not mean what it has to, or one of the ends or damages is missing."""
+    found, with_odd = set(), set()
     for record, card, memory, end in plays():
         if isinstance(record, Prepare):
             test_prepared(record, memory, end)
         else:
             test_verdict(record, card, memory, end)
             found.add((how_prepared(card), end.verdict, end.refused, end.memory != memory))
+            if is_odd(card.write_base):
+                with_odd.add(lone_damage(record))
     test_every_end(found)
+    test_odd_bases(with_odd)

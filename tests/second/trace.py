@@ -9,7 +9,8 @@ from . import example
 from .card import Card, whole_message, with_module, words_sent
 from .trace_drawn import drawn_traces
 from .trace_listed import (
-    damaged_writes, dropped_writes, first_failing_step, listed_traces, most_words, readbacks, short_messages,
+    damaged_writes, dropped_writes, first_failing_step, listed_traces, most_words, odd_configs, readbacks,
+    short_messages,
 )
 from .trace_records import MODULE, RELEASE, SELECT, WORD
 
@@ -116,8 +117,8 @@ def example_stdout():
 
 def pins_stdin():
     """The example, and messages of every shape: at the pins their bits come one by one, with up to 15 left over."""
-    parts = [example.RECORDS, short_messages(), readbacks(), dropped_writes(), damaged_writes(), first_failing_step(), most_words()]
-    records = b"".join(parts)
+    makers = (short_messages, readbacks, dropped_writes, damaged_writes, first_failing_step, most_words, odd_configs)
+    records = b"".join([example.RECORDS, *(make() for make in makers)])
     return len(records) // RECORD_BYTES, records
 
 

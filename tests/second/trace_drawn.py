@@ -1,5 +1,6 @@
 """Drawn traces: mostly valid messages, one in four damaged, and some refused records."""
 
+from .addresses import base_of
 from .draw import Draw
 from .trace_listed import BASES, refused_inside, refused_outside, unknown_kinds
 from .trace_records import (
@@ -32,7 +33,9 @@ def sub_address(draw):
 
 
 def base(draw):
-    return weighted(draw, [(6, draw.below(12)), (2, draw.below(200)), (1, draw.pick(BASES))])
+    """In bytes; some are odd."""
+    small, any_inside = base_of(draw.below(12)), base_of(draw.below(200))
+    return weighted(draw, [(6, small), (2, any_inside), (1, small + 1), (1, any_inside + 1), (1, draw.pick(BASES))])
 
 
 def time(draw):

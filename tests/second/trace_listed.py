@@ -1,5 +1,6 @@
 """Traces for listed cases; each function gives the records of one trace, or of several."""
 
+from .addresses import word_address
 from .trace_records import (
     MODULE, RELEASE, SELECT, WORD,
     all_sent, config_read, config_write, module, read, readback, record, release, reset, select,
@@ -19,7 +20,12 @@ SETTING = {
     "ME and IC": [0x00C0, 0x4033],
 }
 
-BASES = (0, 1, 192, 193, 255, 256, 257, 65535, 0x10000, 0xFFFFFFFF)
+# In bytes: around those from which 63 words, one word and none reach the end of memory; far ones; odd ones.
+BASES = (
+    0, 2, 384, 386, 510, 512, 514,
+    0x1FFFE, 0x20000, 0xFFFFFFFE,
+    1, 387, 511, 513, 0xFFFFFFFF,
+)
 
 
 def run_and_compared():
@@ -91,7 +97,7 @@ def readbacks():
     """READBACK after each command, and after refused ones."""
     commands = [
         reset(), synch(0x0123456789ABCDEF), tick(63), write(16, BLOCK), write(9, []), read(3, 16),
-        read(0, 9), readback(), config_write(7), config_read(9),
+        read(0, 9), readback(), config_write(14), config_read(18), config_write(7), config_read(9),
     ]
     records = all_sent(readback(), readback())
     for message in commands:
@@ -133,15 +139,15 @@ def times():
 
 def near_end(base, length):
     """Sub-addresses at both ends and around the end of memory."""
-    end = 256 - base - length
+    end = 256 - length - word_address(base, 0)
     return sorted({0, 1, 255, *[place for place in (end - 1, end, end + 1) if 0 <= place <= 255]})
 
 
-def around_end(base):
-    """WRITE and READ of 0, 1 and 63 words around the end of memory, by both bases."""
-    records = all_sent(config_write(base), readback(), config_read(base), readback())
+def around_end(write_base, read_base):
+    """WRITE and READ of 0, 1 and 63 words around the end of memory, by both bases, whose halves are equal."""
+    records = all_sent(config_write(write_base), readback(), config_read(read_base), readback())
     for length in (0, 1, 63):
-        for sub_address in near_end(base, length):
+        for sub_address in near_end(write_base, length):
             block = [word ^ sub_address for word in MOST[:length]]
             records += all_sent(write(sub_address, block), read(length, sub_address))
     # The bases are two: each alone goes back to 0, and the whole memory's end is read.
@@ -151,33 +157,108 @@ def around_end(base):
 
 
 def bases():
-    return [around_end(base) for base in BASES]
+    """Both bases alike, even or odd."""
+    return [around_end(base, base) for base in BASES]
+
+
+def one_odd_base():
+    """Only the write base or only the read base is odd, and the other one is the even base before it."""
+    traces = []
+    for even in (2, 386, 512):
+        traces += [around_end(even + 1, even), around_end(even, even + 1)]
+    return traces
 
 
 def far_bases():
-    """Sums that come back into memory where they are taken modulo 2^16 or 2^32."""
+    """Bases that come back into memory where they, their halves or a sum, in words or in bytes, are taken modulo 2^16,
+    2^24, 2^31 or 2^32."""
     records = b""
-    for base in (0xFF80, 0x1FF80, 0xFFFFFF80, 0xFFFFFFFF, 0x80000000, 0x10000, 0x01000000):
+    sums = (0xFF00, 0x1FF00, 0x3FF00, 0xFFFFFF00, 0xFFFFFFFE, 0xFFFFFFFF)
+    for base in (*sums, 0x10000, 0x20000, 0x01000000, 0x02000000, 0x80000000):
         records += all_sent(config_write(base), config_read(base))
         for sub_address in (0, 1, 127, 128, 129, 255):
             records += all_sent(write(sub_address, [0xBAD1]), read(1, sub_address))
             records += all_sent(write(sub_address, []), read(0, sub_address))
-    return records + all_sent(reset(), read(63, 0), read(63, 63), read(63, 126), read(63, 189))
+    return records + whole_memory()
+
+
+def every_word_differs():
+    """Fills the memory."""
+    fill = [0x5000 + place for place in range(256)]
+    return all_sent(*[write(place, fill[place:place + 63]) for place in range(0, 256, 63)])
+
+
+def whole_memory():
+    """Reads all of it, once RESET has cleared the bases."""
+    return all_sent(reset(), *[read(min(63, 256 - place), place) for place in range(0, 256, 63)])
+
+
+def halved_bases():
+    """Bases with even and odd halves, and even and odd sub-addresses: only the base is halved. A READ's place shows in
+    the words that it sends, a WRITE's in the whole memory at the end."""
+    records = every_word_differs()
+    for number, base in enumerate((2, 4, 6, 30, 254, 256, 508)):
+        records += all_sent(config_read(base), *[read(2, sub_address) for sub_address in (0, 1, 2, 3, 127, 255)])
+        # No two of these go to one place.
+        marked = [write(sub_address, [256 * number + sub_address]) for sub_address in (1, 5, 21, 32, 97, 255)]
+        records += all_sent(config_write(base), *marked)
+    return records + whole_memory()
+
+
+def base_bits():
+    """Each bit of a base alone: the lowest makes it odd, the next lead to other words, the others beyond memory."""
+    records = every_word_differs()
+    for place in range(32):
+        base = 1 << place
+        records += all_sent(config_write(base), config_read(base), read(1, 0), write(0, [place]), read(1, 0))
+    return records + whole_memory()
+
+
+def odd_configs():
+    """CONFIG takes an odd base: READBACK shows a clean status and its token. What goes by that base is refused, and
+    sends and stores nothing, until the base is even again, or RESET clears it. The other base is 0, or the same."""
+    records = all_sent(write(0, MOST[:16]))
+    for configs in ([config_write], [config_read], [config_write, config_read]):
+        for base in (7, 6, 7):
+            records += all_sent(SETTING["AR"], *[config(base) for config in configs], readback())
+            records += all_sent(write(1, [base]), readback(), read(2, 1), readback(), write(3, []), read(0, 3))
+        records += all_sent(reset(), read(16, 0))
+    return records
+
+
+def odd_base_steps():
+    """With odd bases: a wrong token decides before them, they before a wrong number of words and a wrong check, and the
+    commands without a base do not look at them."""
+    records = all_sent(write(0, BLOCK), config_write(1), config_read(1))
+    for message in (write(0, BLOCK), read(3, 0), write(0, []), read(0, 0)):
+        first, second, *payload = message
+        wrong_prefix = with_check(first ^ 0x8000, second)
+        records += all_sent([first, second ^ 1, *payload], [*wrong_prefix, *payload])
+        records += all_sent(message[:1], message[:-1], [*message, 0], [*message[:-1], message[-1] ^ 0x8000])
+        records += sent(message, 1) + sent(message[:2], 15) + all_sent(message)
+    others = (tick(1), synch(7), config_write(3), config_read(5), readback(), SETTING["AR"], SETTING["IC"])
+    for message in others:
+        records += all_sent(message, read(1, 0), write(0, [7]))
+    return records + all_sent(reset(), read(4, 0))
+
+
+def before_reset(base):
+    """A card of which all differs from power-up, with this base twice."""
+    start = module(0x1A) + all_sent(synch(0xFEDC), write(0, BLOCK), write(40, BLOCK[::-1]))
+    return start + all_sent(config_write(base), config_read(base), read(3, 0), write(1, [0x0BAD]))
 
 
 def reset_clears_bases():
-    """RESET clears both bases and nothing else; a refused RESET does nothing."""
-    start = module(0x1A) + all_sent(synch(0xFEDC), write(0, BLOCK), write(40, BLOCK[::-1]))
-    start += all_sent(config_write(40), config_read(40), read(3, 0), write(1, [0x0BAD]))
+    """RESET clears both bases, odd ones too, and nothing else; a refused RESET does nothing."""
     end = all_sent(read(3, 0), write(0, [0x0C0C]), read(3, 0), config_read(0), read(63, 0))
     bad = ([*reset(), 0], [0x40C0, 0x4032], with_check(0x40C0, 0x4070), with_check(0x40C1, 0x4030))
-    return [start + all_sent(reset()) + end] + [start + all_sent(message) + end for message in bad]
+    return [before_reset(base) + all_sent(message) + end for base in (80, 81) for message in (reset(), *bad)]
 
 
 def refused_config():
-    """CONFIG with a wrong count or check leaves the base; its length is 2."""
-    records = all_sent(write(0, [*range(1, 20)]), config_write(3), config_read(5))
-    for good in (config_write(11), config_read(13)):
+    """CONFIG with a wrong count or check leaves the base; its length is 2. The same with odd bases."""
+    records = all_sent(write(0, [*range(1, 20)]), config_write(6), config_read(10))
+    for good in (config_write(22), config_read(26), config_write(23), config_read(27)):
         for number in range(7):
             records += all_sent([*good, 0, 0][:number], read(2, 0), write(0, [number]), read(2, 1))
         for place in range(2, 5):
@@ -380,12 +461,12 @@ def open_at_end():
 def listed_traces():
     """All listed traces, in a fixed order."""
     single = (
-        short_messages, nothing_between, most_words, lengths, readbacks, far_bases, refused_config,
-        dropped_writes, dropped_long_writes, damaged_writes, marks, wrong_checks,
-        first_failing_step, every_code, every_length, every_sub_address, odd_ticks, other_bytes,
+        short_messages, nothing_between, most_words, lengths, readbacks, far_bases, halved_bases, base_bits,
+        odd_configs, odd_base_steps, refused_config, dropped_writes, dropped_long_writes, damaged_writes, marks,
+        wrong_checks, first_failing_step, every_code, every_length, every_sub_address, odd_ticks, other_bytes,
     )
     several = (
-        run_and_compared, long_messages, bits_of_time, times, bases, reset_clears_bases,
+        run_and_compared, long_messages, bits_of_time, times, bases, one_odd_base, reset_clears_bases,
         module_values, refusals, unfinished, open_at_end,
     )
     traces = [b""] + [make() for make in single]

@@ -1,10 +1,11 @@
-"""The loader of request 1 (document 02), and what `unit` says to its stored units."""
+"""The loader of request 1 (document 02), with bases in bytes by request 2, and what `unit` says to its stored units."""
 
 from collections import Counter
 from functools import lru_cache
 from itertools import product, takewhile
 from typing import NamedTuple
 
+from .addresses import base_of
 from .card import Card
 from .checks import crc16
 from .sure import DONE, UNSURE, Line, between_readbacks
@@ -59,7 +60,7 @@ def stages(words):
     """What a load sends between READBACKs: for each block its base and then its words, with its place and length."""
     for place in range(0, len(words), BLOCK):
         block = words[place:place + BLOCK]
-        yield place, len(block), config_write(place)
+        yield place, len(block), config_write(base_of(place))
         yield place, len(block), write(0, block)
 
 
@@ -180,7 +181,7 @@ def test_taken(play, before, went):
     base_taken, block_taken = (went.ends[-1].taken, False) if stage_of(went) == BASE else (True, went.ends[-1].taken)
     count = place + length if block_taken else place
     demand(went.memory == partly(play.table.words, count, before), "another memory than the one taken", play)
-    demand(went.card.write_base == place or not base_taken, "another base than the one taken", play)
+    demand(went.card.write_base == base_of(place) or not base_taken, "another base than the one taken", play)
 
 
 def harmless(bit_count, damage):

@@ -2,6 +2,7 @@ pub mod Cases
 pub mod Closed
 pub mod Holding
 pub mod Laws
+pub mod Places
 pub mod Ranges
 pub mod Refusals
 pub mod Sound

@@ -93,7 +93,7 @@ ended c left =
 unfoldable pub writes : Card → ℕ → Bool
 writes c left = not (silent c left) && not (anySet (judged c left)) && eqb (fields c .code) (write .code)
 
--- the memory with the block at write base + sub-address
+-- the memory with the block at write base / 2 + sub-address
 unfoldable pub stored : Card → List ℕ → List ℕ
 stored c memory = written memory (wordPlace (c .bases .«write_base») (fields c .«sub_address»)) (block c)
 

@@ -1,5 +1,5 @@
--- How the card judges tokens: what a passed one tells, and that those of READBACK and CONFIG WRITE pass always, and WRITE's where its block is
--- inside.
+-- How the card judges tokens: what a passed one tells, and that those of READBACK and CONFIG WRITE pass always, and WRITE's where its base is
+-- even and its block inside.
 -- Assumes nothing.
 use Prim.Native.Nat.{ℕ, _+_, _%_, _≤_}
 use native.Mathlib.Nat.{div-one}
@@ -15,9 +15,9 @@ use Rattle.token.specs.Response.{status, clean, goodResponse, anySet}
 use Rattle.token.specs.declared.command.Command.{Command}
 use Rattle.token.proofs.CommandTrip.{CommandFits, command-good, command-fields}
 use Rattle.token.proofs.Good.{good-command, good-response}
-use Rattle.judge.specs.Judge.{firstFailing, step1, lengthFits, subFits, subStatus, step2, wordPlace, inside, step3, tokenStatus}
+use Rattle.judge.specs.Judge.{firstFailing, step1, lengthFits, subFits, subStatus, step2, wordPlace, isEven, inside, blockStatus, step3, tokenStatus}
 use Rattle.judge.specs.declared.Bases.{Bases}
-use Rattle.judge.proofs.Laws.{never, token-passed, passed-good, write-inside as judged-inside}
+use Rattle.judge.proofs.Laws.{never, token-passed, passed-good, write-even as judged-even, write-inside as judged-inside}
 use Rattle.controller.specs.Base.{baseCommand}
 use Rattle.controller.specs.Sure.{readbackCommand}
 
@@ -78,13 +78,21 @@ module _ (n sub : ℕ) (n-fits : n ≤ 63) (sub-fits : sub ≤ 255) where
   write-fits = rw (le-leb n 63 n-fits, le-leb sub 255 sub-fits)
 
   module _ (size : ℕ) (b : Bases) where
-    -- inside, so it passes
-    pub write-passes : wordPlace (b .«write_base») sub + n ≤ size → anySet (tokenStatus size b (commandFirst w) (commandSecond w)) ≡ false
-    unfolding tokenStatus firstFailing anySet step2 lengthFits subStatus subFits step3 inside ruleOf table rowIn
-    write-passes h =
+    -- an even base and inside, so it passes
+    pub write-passes : isEven (b .«write_base») ≡ true → wordPlace (b .«write_base») sub + n ≤ size
+        → anySet (tokenStatus size b (commandFirst w) (commandSecond w)) ≡ false
+    unfolding tokenStatus firstFailing anySet step2 lengthFits subStatus subFits step3 blockStatus inside ruleOf table rowIn
+    write-passes even h =
         rw (command-fields w write-fits, good-passes _ _ (command-good w write-fits), le-leb 0 n (omega arith))
-        (rw (le-leb n 63 n-fits, le-leb sub 255 sub-fits, le-leb _ _ h))
+        (rw (le-leb n 63 n-fits, le-leb sub 255 sub-fits, even, le-leb _ _ h))
 
     -- and the other way round
-    pub write-inside : anySet (tokenStatus size b (commandFirst w) (commandSecond w)) ≡ false → wordPlace (b .«write_base») sub + n ≤ size
-    write-inside h = judged-inside size b w (rw (command-fields w write-fits) at (token-passed size b _ _ h .three)) refl
+    module _ (h : anySet (tokenStatus size b (commandFirst w) (commandSecond w)) ≡ false) where
+      third : anySet (step3 size b w) ≡ false
+      third = rw (command-fields w write-fits) at (token-passed size b _ _ h .three)
+
+      pub write-even : isEven (b .«write_base») ≡ true
+      write-even = judged-even size b w third refl
+
+      pub write-inside : wordPlace (b .«write_base») sub + n ≤ size
+      write-inside = judged-inside size b w third refl

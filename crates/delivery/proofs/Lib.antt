@@ -11,6 +11,7 @@ pub mod Heard
 pub mod Judged
 pub mod Kept
 pub mod Machine
+pub mod Odd
 pub mod Read
 pub mod Readbacks
 pub mod Sending

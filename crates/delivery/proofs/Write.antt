@@ -3,7 +3,7 @@
 use Prim.Native.Nat.{ℕ, _≤_}
 use native.Mathlib.Omega.{arith}
 use mathlib.Core.Path.{_≡_, refl, sym, ap, _∙_}
-use mathlib.Core.Bool.{false}
+use mathlib.Core.Bool.{true, false, true≢false}
 use mathlib.Core.Logic.{_⊎_, inl, inr, ⊎-elim}
 use mathlib.Core.List.{List, []}
 use borrow.Author.Tests.{eq-eqb, eqb-true}
@@ -19,11 +19,11 @@ use Rattle.card.proofs.Closed.{cardActed}
 use Rattle.controller.specs.Builder.{isReading, message, blockFits}
 use Rattle.controller.specs.Sure.{doneAt, unsureAt, Said, verdictOf}
 use Rattle.delivery.specs.AnyCommand.{Fates, Course, sureCommand, EndsDone, EndsUnsure, Accepts, Acted, called, Sends, AnyCommand, NoDamage, AnyUndamaged}
-use Rattle.delivery.specs.Delivery.{Side, Inside, BlockWritten, noDamage, sureWrite, Kept, Meaning, Premises, Delivery, Undamaged}
+use Rattle.delivery.specs.Delivery.{Side, EvenBase, Inside, BlockWritten, noDamage, sureWrite, Kept, Meaning, Premises, Delivery, Undamaged, NeverDone, OddBase}
 use Rattle.delivery.specs.Play.{ModuleCall, Going, Buffers, Damages, Calls}
 use Rattle.delivery.proofs.Acts.{Took}
 use Rattle.delivery.proofs.Effects.{write-acted, write-stored}
-use Rattle.delivery.proofs.Judged.{writeOf, write-fits, write-passes, write-inside}
+use Rattle.delivery.proofs.Judged.{writeOf, write-fits, write-passes, write-even, write-inside}
 use Rattle.delivery.proofs.Kept.{kept-trans}
 use Rattle.delivery.proofs.Machine.{in-state, going, fatesOf, write-legs}
 use Rattle.delivery.proofs.Sending.{acted-then, passes-accepted}
@@ -75,6 +75,7 @@ module _ (side : Side) (l : Lawful side) where
       acted-written : BlockWritten (side .card s) memory sub block memory′
       acted-written =
           let same : Aside (side .card s) (called side s calls) = called-aside side l (p .run) calls in (
+            rw (same .bases) at (write-even (length block) sub (p .short) (p .sub-address) (called side s calls .size) (called side s calls .bases) (took .passed)),
             rw (same .size, same .bases) at (write-inside (length block) sub (p .short) (p .sub-address) (called side s calls .size) (called side s calls .bases) (took .passed)),
             took .stores
                 ∙ write-stored sub block (p .short) (p .sub-address) (called side s calls) memory
@@ -85,10 +86,10 @@ module _ (side : Side) (l : Lawful side) where
       acted-kept =
           kept-trans (called side s calls) (cardActed (called side s calls) (message w block)) c′ (write-acted sub block (p .short) (p .sub-address) (called side s calls)) (took .card)
 
-    -- and one whose block is inside is accepted
-    inside-accepted : Inside (side .card s) sub block → Accepts (side .card s) memory w block
-    inside-accepted inside =
-        passes-accepted side l sends (write-passes (length block) sub (p .short) (p .sub-address) (side .card s .size) (side .card s .bases) inside)
+    -- and one whose base is even and whose block is inside is accepted
+    inside-accepted : EvenBase (side .card s) → Inside (side .card s) sub block → Accepts (side .card s) memory w block
+    inside-accepted even inside =
+        passes-accepted side l sends (write-passes (length block) sub (p .short) (p .sub-address) (side .card s .size) (side .card s .bases) even inside)
 
   -- ---- WRITE in the middle
 
@@ -109,9 +110,10 @@ module _ (side : Side) (l : Lawful side) where
       }
 
   pub write-undamaged : AnyUndamaged side → (s : side .State) (memory : List ℕ) (sub : ℕ) (block : List ℕ) → WriteSends side s memory sub block
-      → Inside (side .card s) sub block → (f : Fates) → NoDamage f → EndsDone (sureCommand side s memory (writeOf (length block) sub) block f)
-  write-undamaged any s memory sub block p inside =
-      any s memory (writeOf (length block) sub) block (sends s memory sub block p) (inside-accepted s memory sub block p inside)
+      → EvenBase (side .card s) → Inside (side .card s) sub block
+      → (f : Fates) → NoDamage f → EndsDone (sureCommand side s memory (writeOf (length block) sub) block f)
+  write-undamaged any s memory sub block p even inside =
+      any s memory (writeOf (length block) sub) block (sends s memory sub block p) (inside-accepted s memory sub block p even inside)
 
 -- ---- the sure write itself
 
@@ -154,9 +156,17 @@ delivery-holds side l any s memory sub block b p d calls =
 
 pub undamaged-holds : (side : Side) → Lawful side → AnyUndamaged side → Undamaged side
 unfolding verdictOf
-undamaged-holds side l any s memory sub block b p inside calls =
+undamaged-holds side l any s memory sub block b p even inside calls =
     let f : Fates = fatesOf noDamage calls in
     let none : NoDamage f = record { first = refl; second = refl; third = refl } in
-    let done = write-undamaged side l any s memory sub block (without-buffers side l s memory sub block b p) inside f none in
+    let done = write-undamaged side l any s memory sub block (without-buffers side l s memory sub block b p) even inside f none in
     let six : sureCommand side s memory (writeOf (length block) sub) block f .turn ≡ 6 = eqb-true _ 6 done in
     rw (is-legs side l s memory sub block b p noDamage calls, six, in-state (length block) sub (p .short) (p .sub-address) 6 (lit≤ tt))
+
+-- an odd base: no block can be written by it
+pub odd-base-holds : (side : Side) → Delivery side → OddBase side
+odd-base-holds side holds s memory sub block b p odd d calls =
+    let m = holds s memory sub block b p d calls in
+    let none : EvenBase (side .card s) → ⊥ = λ even. true≢false (sym even ∙ odd) in
+    let unsure = ⊎-elim (λ v. absurd (none (m .done v .0))) (λ v. v) (m .ends) in
+    record { not-done = λ v. none (m .done v .0); unsure = unsure; unwritten = ⊎-elim (λ e. e) (λ w. absurd (none (w .0))) (m .unsure unsure) }

@@ -1,7 +1,7 @@
 -- Demand 3 for any command in the middle: a command between two READBACKs under the sure write's rules, and what its verdict means, however
 -- the three messages are damaged. The sure write (Delivery.antt) is one use, and setting a base (below) another.
--- The proofs are `any-command`, `any-undamaged`, `any-at-pins`, `any-undamaged-at-pins`, and for the base `base-in-words`, `base-at-pins`,
--- `base-undamaged-in-words`, `base-undamaged-at-pins`, all of proofs/Theorem.antt.
+-- The proofs are `any-command`, `any-undamaged`, `odd-command`, `any-at-pins`, `any-undamaged-at-pins`, `odd-command-at-pins`, and for the
+-- base `base-in-words`, `base-at-pins`, `base-undamaged-in-words`, `base-undamaged-at-pins`, all of proofs/Theorem.antt.
 use Prim.Native.Nat.{ℕ, _+_, _<_}
 use mathlib.Core.Bool.{Bool, true, false, cond}
 use mathlib.Core.List.{List, [], _++_}
@@ -11,10 +11,12 @@ use lib.Dec.{eqb}
 use lib.ListN.{length}
 use Rattle.bits.specs.Bits.{stream}
 use Rattle.bits.specs.Lines.{AreWords, words}
-use Rattle.rules.specs.Rules.{messageWords, readback}
+use Rattle.rules.specs.Rules.{messageWords, write, read, readback}
 use Rattle.token.specs.Command.{commandFits}
 use Rattle.token.specs.Response.{anySet}
 use Rattle.token.specs.declared.command.Command.{Command}
+use Rattle.judge.specs.Judge.{isEven}
+use Rattle.judge.specs.declared.Bases.{Bases}
 use Rattle.link.specs.Damage.{Damage, undamaged}
 use Rattle.card.specs.Release.{basesOf}
 use Rattle.card.specs.Whole.{Hears, cardAfterLine, memoryAfterLine}
@@ -142,6 +144,21 @@ pub record NoDamage (f : Fates) : Type 0 where
 abbrev pub AnyUndamaged : Side → Type 0
 AnyUndamaged side = (s : side .State) (memory : List ℕ) (t : Command) (block : List ℕ) → Sends side s memory t block
     → Accepts (side .card s) memory t block → (f : Fates) → NoDamage f → EndsDone (sureCommand side s memory t block f)
+
+-- a WRITE by an odd write base, or a READ by an odd read base
+abbrev pub ByOddBase : Bases → Command → Type 0
+ByOddBase b t =
+    ((t .code ≡ write .code) × (isEven (b .«write_base») ≡ false)) ⊎ ((t .code ≡ read .code) × (isEven (b .«read_base») ≡ false))
+
+-- never Done: it is Unsure, and nothing but status bits and last token is changed
+pub record NeverActs (side : Side) (s : side .State) (memory : List ℕ) (end : Course (side .State)) : Type 0 where
+  pub not-done : EndsDone end → ⊥
+  pub unsure : EndsUnsure end
+  pub still : Still (called side s (end .calls)) memory (side .card (end .side)) (end .memory)
+
+abbrev pub OddCommand : Side → Type 0
+OddCommand side = (s : side .State) (memory : List ℕ) (t : Command) (block : List ℕ) → Sends side s memory t block
+    → ByOddBase (side .card s .bases) t → (f : Fates) → NeverActs side s memory (sureCommand side s memory t block f)
 
 -- ---- a use: setting the write base, by `baseCommand` with `baseBlock base` (crate controller, Base.antt)
 

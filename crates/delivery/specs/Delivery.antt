@@ -6,7 +6,8 @@
 --   at the pins     `poweredPins`, `selectedPins`, `modulePins`, `clocked`, `releasedPins`, `memoryAfterPins` (crate pins, AtPins.antt),
 --   the controller  `started`, `asked` with `askedBuffer`, `given`, `verdictOf`,
 --   the damage      `Unseen`, `Cut`, `Flipped` (crate link, Damage.antt).
--- The proofs are `delivery`, `undamaged-delivery`, `delivery-at-pins` and `undamaged-at-pins` of proofs/Theorem.antt.
+-- The proofs are `delivery`, `undamaged-delivery`, `odd-base`, and `delivery-at-pins`, `undamaged-at-pins`, `odd-base-at-pins` of
+-- proofs/Theorem.antt.
 use Prim.Native.Nat.{ℕ, _+_, _≤_}
 use mathlib.Core.Bool.{true, false}
 use mathlib.Core.List.{List, []}
@@ -16,7 +17,7 @@ use lib.ListN.{length}
 use Rattle.bits.specs.Buffers.{written}
 use Rattle.bits.specs.Lines.{AreWords}
 use Rattle.rules.specs.Rules.{messageWords, readback}
-use Rattle.judge.specs.Judge.{wordPlace}
+use Rattle.judge.specs.Judge.{wordPlace, isEven}
 use Rattle.link.specs.Damage.{undamaged}
 use Rattle.card.specs.Card.{moduleSet}
 use Rattle.card.specs.Run.{Run}
@@ -51,17 +52,21 @@ atPins = record { State = Pins; hears = heardAtPins; sets = λ p stf state. modu
 
 -- ---- the block and the memory
 
--- the place of the block's first word: write base + sub-address
+-- the place of the block's first word: write base / 2 + sub-address
 abbrev pub target : Card → ℕ → ℕ
 target c sub = wordPlace (c .bases .«write_base») sub
 
--- the block is inside the card's memory: write base + sub-address + length is at most the memory size, for length 0 too
+-- the block is inside the card's memory: write base / 2 + sub-address + length is at most the memory size, for length 0 too
 abbrev pub Inside : Card → ℕ → List ℕ → Type 0
 Inside c sub block = target c sub + length block ≤ c .size
 
--- the block is inside, and the memory is the old one with the block written into it
+-- the write base is even
+abbrev pub EvenBase : Card → Type 0
+EvenBase c = isEven (c .bases .«write_base») ≡ true
+
+-- the write base is even, the block is inside, and the memory is the old one with the block written into it
 abbrev pub BlockWritten : Card → List ℕ → ℕ → List ℕ → List ℕ → Type 0
-BlockWritten c memory sub block later = Inside c sub block × (later ≡ written memory (target c sub) block)
+BlockWritten c memory sub block later = EvenBase c × Inside c sub block × (later ≡ written memory (target c sub) block)
 
 -- ---- the sure write
 
@@ -101,9 +106,9 @@ pub record Kept (c c′ : Card) : Type 0 where
   pub closed : c′ .port .message ≡ emptied false
 
 pub record Meaning (side : Side) (s : side .State) (memory : List ℕ) (sub : ℕ) (block : List ℕ) (end : Going (side .State)) : Type 0 where
-  -- Done: the block was inside, and is written
+  -- Done: the write base was even, the block inside, and it is written
   pub done : SaysDone end → BlockWritten (side .card s) memory sub block (end .memory)
-  -- Unsure: the memory is as it was, or the block was inside, and is written
+  -- Unsure: the memory is as it was; or, as for Done, the block is written
   pub unsure : SaysUnsure end → (end .memory ≡ memory) ⊎ BlockWritten (side .card s) memory sub block (end .memory)
   -- there is a verdict, and neither card nor controller refused a call
   pub ends : SaysDone end ⊎ SaysUnsure end
@@ -129,7 +134,19 @@ abbrev pub Delivery : Side → Type 0
 Delivery side = (s : side .State) (memory : List ℕ) (sub : ℕ) (block : List ℕ) (b : Buffers) → Premises side s memory sub block b
     → (d : Damages) (calls : Calls) → Meaning side s memory sub block (sureWrite side s memory sub block b d calls)
 
--- and with no damage a block that is inside is Done
+-- and with no damage it is Done, where the write base is even and the block inside
 abbrev pub Undamaged : Side → Type 0
 Undamaged side = (s : side .State) (memory : List ℕ) (sub : ℕ) (block : List ℕ) (b : Buffers) → Premises side s memory sub block b
-    → Inside (side .card s) sub block → (calls : Calls) → SaysDone (sureWrite side s memory sub block b noDamage calls)
+    → EvenBase (side .card s) → Inside (side .card s) sub block
+    → (calls : Calls) → SaysDone (sureWrite side s memory sub block b noDamage calls)
+
+-- an odd write base is never Done: it is Unsure, and the memory is as it was
+pub record NeverDone {S : Type 0} (memory : List ℕ) (end : Going S) : Type 0 where
+  pub not-done : SaysDone end → ⊥
+  pub unsure : SaysUnsure end
+  pub unwritten : end .memory ≡ memory
+
+abbrev pub OddBase : Side → Type 0
+OddBase side = (s : side .State) (memory : List ℕ) (sub : ℕ) (block : List ℕ) (b : Buffers) → Premises side s memory sub block b
+    → isEven (side .card s .bases .«write_base») ≡ false
+    → (d : Damages) (calls : Calls) → NeverDone memory (sureWrite side s memory sub block b d calls)

@@ -1,10 +1,11 @@
--- What is known where no step failed.
+-- What is known where no step failed; and of bases.
 -- Assumes nothing.
-use Prim.Native.Nat.{ℕ, _+_, _≤_}
+use Prim.Native.Nat.{ℕ, _+_, _*_, _%_, _≤_}
 use mathlib.Core.Bool.{Bool, true, false, cond, _&&_, true≢false}
 use mathlib.Core.List.{List}
 use mathlib.Core.Path.{_≡_, refl, sym, _∙_, subst}
-use borrow.Author.Tests.{leb-true, ltb-false}
+use native.Mathlib.Omega.{arith}
+use borrow.Author.Tests.{eq-eqb, leb-true, ltb-false}
 use lib.Dec.{eqb, ltb}
 use lib.ListN.{length, drop, getD}
 use Rattle.rules.specs.Rules.{table, found, rowIn, ruleOf, tick, read, write}
@@ -13,7 +14,8 @@ use Rattle.token.specs.Marks.{goodMarks}
 use Rattle.token.specs.Response.{clean, anySet}
 use Rattle.token.specs.declared.command.Command.{Command}
 use Rattle.token.specs.declared.response.Status.{Status}
-use Rattle.judge.specs.Judge.{me, ar, ic, firstFailing, step1, lengthFits, subFits, subStatus, step2, wordPlace, inside, step3, tokenStatus, step4, step5, endStatus, judgement}
+use Rattle.token.proofs.Good.{both}
+use Rattle.judge.specs.Judge.{me, ar, ic, firstFailing, step1, lengthFits, subFits, subStatus, step2, wordPlace, isEven, inside, blockStatus, step3, tokenStatus, step4, step5, endStatus, judgement}
 use Rattle.judge.specs.declared.Bases.{Bases}
 
 pub never {ℓ} : {A : Type ℓ} → true ≡ false → A
@@ -82,19 +84,41 @@ tick-index f h e =
     either true = refl
     either false = refl
 
--- step 3: the block of READ or WRITE lies inside the memory
+-- step 3: the base of READ or WRITE is even, and its block lies inside the memory
 module _ (size : ℕ) (b : Bases) (f : Command) (h : anySet (step3 size b f) ≡ false) where
-  within : (base : ℕ) → anySet (cond (inside size base f) clean ar) ≡ false → wordPlace base (f .«sub_address») + f .length ≤ size
-  unfolding inside anySet
-  within base e = leb-true _ size (holds (inside size base f) clean ar refl e .0)
+  abbrev Placed : ℕ → Type 0
+  Placed base = (isEven base ≡ true) × (wordPlace base (f .«sub_address») + f .length ≤ size)
+
+  placed : (base : ℕ) → anySet (blockStatus size base f) ≡ false → Placed base
+  unfolding blockStatus inside anySet
+  placed base e =
+      let (even, within) = both (isEven base) (inside size base f) (holds (isEven base && inside size base f) clean ar refl e .0) in
+      (even, leb-true _ size within)
+
+  read-placed : f .code ≡ read .code → Placed (b .«read_base»)
+  unfolding step3 blockStatus inside
+  read-placed e = placed (b .«read_base») (rw e at h)
+
+  write-placed : f .code ≡ write .code → Placed (b .«write_base»)
+  unfolding step3 blockStatus inside
+  write-placed e = placed (b .«write_base») (rw e at h)
+
+  pub read-even : f .code ≡ read .code → isEven (b .«read_base») ≡ true
+  read-even e = read-placed e .0
 
   pub read-inside : f .code ≡ read .code → wordPlace (b .«read_base») (f .«sub_address») + f .length ≤ size
-  unfolding step3 inside
-  read-inside e = within (b .«read_base») (rw e at h)
+  read-inside e = read-placed e .1
+
+  pub write-even : f .code ≡ write .code → isEven (b .«write_base») ≡ true
+  write-even e = write-placed e .0
 
   pub write-inside : f .code ≡ write .code → wordPlace (b .«write_base») (f .«sub_address») + f .length ≤ size
-  unfolding step3 inside
-  write-inside e = within (b .«write_base») (rw e at h)
+  write-inside e = write-placed e .1
+
+-- a place doubled, as a base: the block begins at the place + sub-address, and the base is even
+pub doubled : (place sub : ℕ) → (wordPlace (2 * place) sub ≡ place + sub) × (isEven (2 * place) ≡ true)
+unfolding wordPlace isEven
+doubled place sub = (omega arith, eq-eqb (2 * place % 2) 0 (omega arith))
 
 -- ---- all words of a message
 

@@ -1,5 +1,5 @@
 -- Judgement, steps 1 to 5 of document 01. A step gives the status bits that it sets: none where it does not fail.
-use Prim.Native.Nat.{ℕ, _+_}
+use Prim.Native.Nat.{ℕ, _+_, _/_, _%_}
 use mathlib.Core.Bool.{Bool, true, false, cond, not, _&&_, _||_}
 use mathlib.Core.List.{List}
 use lib.Dec.{eqb, leb, ltb}
@@ -46,19 +46,28 @@ subStatus f r = cond (subFits f r) clean (cond (eqb (f .code) (tick .code)) ar i
 unfoldable pub step2 : Command → InTable → Status
 step2 f found = cond (found .there) (cond (lengthFits f (found .rule)) (subStatus f (found .rule)) ic) ic
 
--- the place of a block's first word. Bases and sub-addresses count words.
+-- the place of a block's first word: half of the base, plus the sub-address. A base counts bytes, a sub-address counts words.
 unfoldable pub wordPlace : ℕ → ℕ → ℕ
-wordPlace base sub = base + sub
+wordPlace base sub = base / 2 + sub
+
+-- an even base is the address of a word, an odd one of none
+unfoldable pub isEven : ℕ → Bool
+isEven base = eqb (base % 2) 0
 
 -- a block from a base on lies inside the memory
 unfoldable pub inside : ℕ → ℕ → Command → Bool
 inside size base f = leb (wordPlace base (f .«sub_address») + f .length) size
 
--- Step 3. WRITE or READ where base + sub-address + length exceeds the memory size: AR. READ uses the read base, WRITE the write base.
+-- AR for an odd base, and for a block beyond the memory
+unfoldable pub blockStatus : ℕ → ℕ → Command → Status
+blockStatus size base f = cond (isEven base && inside size base f) clean ar
+
+-- Step 3. WRITE or READ with an odd base, or where base / 2 + sub-address + length exceeds the memory size: AR. READ uses the read base,
+-- WRITE the write base.
 unfoldable pub step3 : ℕ → Bases → Command → Status
 step3 size b f =
-    cond (eqb (f .code) (write .code)) (cond (inside size (b .«write_base») f) clean ar)
-    (cond (eqb (f .code) (read .code)) (cond (inside size (b .«read_base») f) clean ar)
+    cond (eqb (f .code) (write .code)) (blockStatus size (b .«write_base») f)
+    (cond (eqb (f .code) (read .code)) (blockStatus size (b .«read_base») f)
     clean)
 
 -- steps 1 to 3, known after word 2

@@ -3,10 +3,8 @@
 ghost use mathlib.Core.Path.{_≡_};
 ghost use Rattle.rules.specs.Rules.{found, ruleOf};
 ghost use Prim.Native.Nat.{_≤_};
-ghost use mathlib.Core.Bool.{cond};
 ghost use lib.ListN.{length};
-ghost use Rattle.token.specs.Response.{clean};
-ghost use Rattle.judge.specs.Judge.{ar, step1, lengthFits, subFits, subStatus, step2, wordPlace, inside, step3, tokenStatus, step4, isChecked, checkStatus, step5, endStatus};
+ghost use Rattle.judge.specs.Judge.{step1, lengthFits, subFits, subStatus, step2, wordPlace, blockStatus, step3, tokenStatus, step4, isChecked, checkStatus, step5, endStatus};
 ghost use Rattle.judge.specs.Judge;
 use rules::Found;
 use rules::Name;
@@ -17,7 +15,7 @@ use token::marks::Marks;
 use token::response::Status;
 use token::response::any_set;
 
-// From where on a card writes and reads.
+// From which byte on a card writes and reads.
 pub struct Bases {
     pub write_base: u32,
     pub read_base: u32,
@@ -101,18 +99,19 @@ fn sub_status(fields: Command, rule: Rule) -> Status
     IC
 }
 
-// The first word of a block. The sum is worked in 64 bits, so no base wraps.
+// The first word of a block: a base counts bytes, a sub-address words. The sum is worked in 64 bits, so no base wraps.
 pub fn word_place(base: u32, sub_address: u8) -> usize
     ensures { λ r. ⌜ r ≡ wordPlace base «sub_address» ⌝ }
 {
-    base as usize + sub_address as usize
+    base as usize / 2 + sub_address as usize
 }
 
+// AR for an odd base, and for a block beyond the memory.
 fn block_status(size: usize, base: u32, fields: Command) -> Status
-    ensures { λ r. ⌜ r ≡ cond (inside size base fields) clean ar ⌝ }
+    ensures { λ r. ⌜ r ≡ blockStatus size base fields ⌝ }
 {
     let end = word_place(base, fields.sub_address) + fields.length as usize;
-    if end <= size {
+    if (base % 2 == 0) & (end <= size) {
         return CLEAN;
     }
     AR

@@ -20,7 +20,7 @@ use Rattle.controller.specs.Base.{baseCommand, baseBlock}
 use Rattle.controller.specs.Builder.{isReading, message, blockFits, buildRefusal, bufferAfter}
 use Rattle.controller.specs.Sure.{readbackCommand, commandAt, isAsk, isGive, turnAfter}
 use Rattle.controller.proofs.MessageLaws.{message-whole}
-use Rattle.loader.specs.Loader.{loader, blockWords, blockAt, loadGoes, outOfLoad, stageCommand, stageBlock, turnBlock, loadTurn, loadAskRefusal, loadAsked, loadAskedBuffer, lastBlock, nextCard, nextStage, moved, noted, loadGiveRefusal, loadGiven}
+use Rattle.loader.specs.Loader.{loader, blockWords, blockAt, loadGoes, outOfLoad, baseAt, stageCommand, stageBlock, turnBlock, loadTurn, loadAskRefusal, loadAsked, loadAskedBuffer, lastBlock, nextCard, nextStage, moved, noted, loadGiveRefusal, loadGiven}
 use Rattle.loader.specs.declared.Load.the-variants.{NotYet, Loaded, Stopped}
 use Rattle.loader.specs.declared.LoadAsked.{LoadAsked}
 use Rattle.loader.specs.declared.Loader.{Loader}
@@ -64,14 +64,14 @@ module _ (s : Loader) (table : List ℕ) where
   stage-block-fits place same = by (eqb (s .stage) 0)
     where
       by : (base : Bool)
-          → blockFits (cond base baseCommand (command (write .code) (blockWords (s .length) (s .place)) 0)) (length (cond base (baseBlock (s .place)) (blockAt table (s .place)))) ≡ true
+          → blockFits (cond base baseCommand (command (write .code) (blockWords (s .length) (s .place)) 0)) (length (cond base (baseBlock (baseAt (s .place))) (blockAt table (s .place)))) ≡ true
       by true = refl
       by false = eq-eqb _ _ (block-long place same)
 
   -- and has 16-bit words
   pub stage-words : s .length ≤ 32768 → s .place < s .length → AreWords table → AreWords (stageBlock s table)
   unfolding stageBlock
-  stage-words long place below = by-test AreWords (eqb (s .stage) 0) (λ base. base-words (s .place) (omega arith)) (λ block. part-words (blockWords (length table) (s .place)) (s .place) table below)
+  stage-words long place below = by-test AreWords (eqb (s .stage) 0) (λ base. base-words (baseAt (s .place)) (omega arith)) (λ block. part-words (blockWords (length table) (s .place)) (s .place) table below)
 
 -- ---- a turn's message
 

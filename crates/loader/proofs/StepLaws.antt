@@ -17,7 +17,7 @@ use Rattle.controller.specs.Base.{baseBlock}
 use Rattle.controller.specs.Builder.{buildRefusal, messageBuilt, bufferAfter}
 use Rattle.controller.specs.Sure.{commandAt, isAsk, isGive}
 use Rattle.controller.specs.declared.MessageBuilt.{MessageBuilt}
-use Rattle.loader.specs.Loader.{blockWords, loadGoes, outOfLoad, stageCommand, stageBlock, turnBlock, isSize, loadStartRefusal, loadStarted, loadTurn, loadAskRefusal, loadAsked, loadAskedBuffer, loadGiveRefusal}
+use Rattle.loader.specs.Loader.{blockWords, loadGoes, outOfLoad, baseAt, stageCommand, stageBlock, turnBlock, isSize, loadStartRefusal, loadStarted, loadTurn, loadAskRefusal, loadAsked, loadAskedBuffer, loadGiveRefusal}
 use Rattle.loader.specs.declared.LoadStarted.{LoadStarted}
 use Rattle.loader.specs.declared.Loader.{Loader}
 
@@ -75,7 +75,7 @@ module _ (s : Loader) (table : List ℕ) where
   unfolding turnBlock
   block-none other = rw (ne-eqb (s .turn) 2 other)
 
-  pub block-base : s .turn ≡ 2 → s .stage ≡ 0 → turnBlock s table ≡ baseBlock (s .place)
+  pub block-base : s .turn ≡ 2 → s .stage ≡ 0 → turnBlock s table ≡ baseBlock (baseAt (s .place))
   unfolding turnBlock stageBlock
   block-base middle base = rw (middle, base)
 

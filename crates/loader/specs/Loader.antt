@@ -1,6 +1,6 @@
 -- The loader: a table goes to word 0 onward of each card of a list, block by block. For each block the write base is set, by
 -- CONFIG WRITE, and then the block is written at sub-address 0; each of the two stands between two READBACKs under the sure write's rules.
-use Prim.Native.Nat.{ℕ, _+_, _-_, _%_, min}
+use Prim.Native.Nat.{ℕ, _+_, _-_, _*_, _%_, min}
 use mathlib.Core.Bool.{Bool, true, false, cond, not, _&&_, _||_}
 use mathlib.Core.List.{List, [], _∷_}
 use lib.Dec.{eqb, leb, ltb}
@@ -54,12 +54,16 @@ outOfLoad s = ltb 32 (s .cards) || ltb 32768 (s .length) || ltb (s .cards) (s .c
 
 -- ---- the stages: 0 sets the write base, 1 writes the block
 
+-- the write base of a block's place. A base counts bytes, so it is the place doubled.
+abbrev pub baseAt : ℕ → ℕ
+baseAt place = 2 * place
+
 -- the command between the READBACKs, and its block
 unfoldable pub stageCommand : Loader → Command
 stageCommand s = cond (eqb (s .stage) 0) baseCommand (command (write .code) (blockWords (s .length) (s .place)) 0)
 
 unfoldable pub stageBlock : Loader → List ℕ → List ℕ
-stageBlock s table = cond (eqb (s .stage) 0) (baseBlock (s .place)) (blockAt table (s .place))
+stageBlock s table = cond (eqb (s .stage) 0) (baseBlock (baseAt (s .place))) (blockAt table (s .place))
 
 -- the block of a turn's message: READBACK has none
 unfoldable pub turnBlock : Loader → List ℕ → List ℕ

@@ -3,10 +3,10 @@ ghost use Prim.Native.Nat.{_≤_};
 ghost use mathlib.Core.Path.{_≡_};
 ghost use mathlib.Core.Bool.{true, false};
 ghost use lib.ListN.{length};
-ghost use Rattle.controller.specs.Base.{baseCommand};
+ghost use Rattle.controller.specs.Base.{baseCommand, baseBlock};
 ghost use Rattle.controller.specs.Builder.{messageBuilt, bufferAfter};
 ghost use Rattle.controller.specs.Sure.{commandAt, isAsk};
-ghost use Rattle.loader.specs.Loader.{loader, isSize, loadStartRefusal, loadStarted, blockWords, stageCommand, turnBlock, outOfLoad, loadGoes, stands, cardNow, allOver, loadAsked, loadAskedBuffer, lastBlock, nextCard, nextStage, moved, noted, loadGiveRefusal, loadGiven};
+ghost use Rattle.loader.specs.Loader.{loader, isSize, loadStartRefusal, loadStarted, blockWords, baseAt, stageCommand, turnBlock, outOfLoad, loadGoes, stands, cardNow, allOver, loadAsked, loadAskedBuffer, lastBlock, nextCard, nextStage, moved, noted, loadGiveRefusal, loadGiven};
 ghost use Rattle.loader.specs.declared.Load.the-variants.{NotYet};
 use controller::MessageBuilt;
 use rules::Name;
@@ -278,7 +278,16 @@ fn at_turn(state: Loader, place: u32, stage: u8, turn: u8) -> Loader
 
 // ---- ask
 
-// Lays the message of a turn: the stage's command has its place or its block, and a READBACK none.
+// The words that set the write base of a block's place.
+fn base_words(place: u32) -> [u16; 2]
+    requires { ⌜ place ≤ 32768 ⌝ }
+    ensures { λ r. ⌜ r ≡ baseBlock (baseAt place) ⌝ }
+{
+    let base = 2 * place;
+    [(base / 65536) as u16, (base % 65536) as u16]
+}
+
+// Lays the message of a turn: the stage's command has its base or its block, and a READBACK none.
 fn build_stage(state: Loader, table: &[u16], buffer: &mut [u16]) -> MessageBuilt
     requires { ⌜ (outOfLoad state ≡ false) × (length (now table) ≡ state .length) ⌝ }
     ensures { λ r. ⌜ r ≡ messageBuilt (commandAt (stageCommand state) (state .turn)) (turnBlock state (now (table .entry))) (length (now (buffer .entry))) ⌝ }
@@ -290,7 +299,7 @@ fn build_stage(state: Loader, table: &[u16], buffer: &mut [u16]) -> MessageBuilt
         return sure::build_turn(middle, turn, &table[0..0], buffer);
     }
     if state.stage == BASE_STAGE {
-        let base = [(state.place / 65536) as u16, (state.place % 65536) as u16];
+        let base = base_words(state.place);
         return sure::build_turn(middle, turn, &base, buffer);
     }
     let words = block_words(state.length, state.place);

@@ -17,7 +17,7 @@ use Rattle.rules.specs.Rules.{table, rowIn, ruleOf, messageWords}
 use Rattle.token.specs.Command.{commandFirst, commandUpper, commandSecond, commandFits, commandMarks, goodCommand, commandFields}
 use Rattle.token.specs.Marks.{withCheck, checkRight, goodMarks}
 use Rattle.token.specs.Response.{responseFirst, responseSecond, responseMarks, goodResponse, responseFields, responseRead, anySet}
-use Rattle.judge.specs.Judge.{firstFailing, step1, lengthFits, subFits, subStatus, step2, wordPlace, inside, step3, tokenStatus, step4, isChecked, checkStatus, step5, endStatus, judgement}
+use Rattle.judge.specs.Judge.{firstFailing, step1, lengthFits, subFits, subStatus, step2, wordPlace, isEven, inside, blockStatus, step3, tokenStatus, step4, isChecked, checkStatus, step5, endStatus, judgement}
 use Rattle.card.specs.Card.{powered, selected, moduleRefusal, moduleSet, wordRefusal}
 use Rattle.card.specs.Exchange.{exchanged, readbackWord, passedWord, payloadWord, nextWord, told, sendsRead, checkAfter, taken}
 use Rattle.card.specs.Release.{basesAfter, timeAfter, silent, judged, acted, noted, ended, writes, stored, endedMemory, releaseRefusal, released, memoryAfter}
@@ -129,7 +129,7 @@ pub loads : Loads
 unfolding before new passages toldOf cards end long bits number stream shift step feed crc taps4 taps16 crc4 crc16After agrees words wholeWords bitsLeft flipAt flipped filled
     table rowIn ruleOf messageWords commandFirst commandUpper commandSecond commandFits commandMarks goodCommand commandFields
     withCheck checkRight goodMarks responseFirst responseSecond responseMarks goodResponse responseFields responseRead
-    anySet firstFailing step1 lengthFits subFits subStatus step2 wordPlace inside step3 tokenStatus step4 isChecked checkStatus step5 endStatus judgement
+    anySet firstFailing step1 lengthFits subFits subStatus step2 wordPlace isEven inside blockStatus step3 tokenStatus step4 isChecked checkStatus step5 endStatus judgement
     basesAfter timeAfter written silent judged acted noted ended writes stored endedMemory
     selected wordRefusal exchanged releaseRefusal released memoryAfter readbackWord passedWord payloadWord nextWord told sendsRead checkAfter taken
     powered moduleRefusal moduleSet emptied fresh sized outOfRange readRefusal tokenGood payloadGood fieldsRead answerRead

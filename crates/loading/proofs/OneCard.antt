@@ -11,18 +11,19 @@ use lib.Dec.{lit≤}
 use lib.ListN.{length, replicate, length-append}
 use Rattle.bits.specs.Buffers.{written}
 use Rattle.bits.specs.Lines.{AreWords}
-use Rattle.judge.specs.Judge.{wordPlace}
+use Rattle.judge.specs.Judge.{wordPlace, isEven}
 use Rattle.judge.specs.declared.Bases.{Bases}
+use Rattle.judge.proofs.Laws.{doubled}
 use Rattle.controller.specs.Base.{baseCommand, baseBlock}
 use Rattle.controller.specs.Sure.{doneAt}
 use Rattle.controller.specs.declared.Verdict.the-variants as verdict
-use Rattle.loader.specs.Loader.{loadGives, blockWords, blockAt, loader, stageCommand, stageBlock, lastBlock}
+use Rattle.loader.specs.Loader.{loadGives, blockWords, blockAt, loader, baseAt, stageCommand, stageBlock, lastBlock}
 use Rattle.loader.specs.declared.Load.{Load}
 use Rattle.loader.specs.declared.Load.the-variants.{NotYet, Loaded, Stopped}
 use Rattle.loader.specs.declared.Loader.{Loader}
 use Rattle.loader.proofs.StateLaws.{Serving}
 use Rattle.delivery.specs.AnyCommand.{Fates, Course, sureCommand, EndsDone, called, NoDamage, withBase, BaseMeans, BaseSends}
-use Rattle.delivery.specs.Delivery.{Side, Kept, target, Inside, BlockWritten}
+use Rattle.delivery.specs.Delivery.{Side, Kept, target, EvenBase, Inside, BlockWritten}
 use Rattle.delivery.specs.Play.{ModuleCall}
 use Rattle.delivery.proofs.Judged.{writeOf}
 use Rattle.delivery.proofs.Kept.{kept-opened}
@@ -109,7 +110,7 @@ module _ (side : Side) (z : Known side) (table : List ℕ) (words : AreWords tab
     is-lent : length memory ≡ side .card x .size
     is-lent = ap length (g .memory-is) ∙ loaded-long table old in-old place (omega (arith, g .some)) ∙ p .lent ∙ sym is-size
 
-    base-sends : BaseSends side x memory place
+    base-sends : BaseSends side x memory (baseAt place)
     base-sends = record { run = g .run; idle = kept-opened (g .kept); lent = is-lent; fits = omega (arith, g .some, short) }
 
     write-sends : WriteSends side x memory 0 (block place)
@@ -122,17 +123,20 @@ module _ (side : Side) (z : Known side) (table : List ℕ) (words : AreWords tab
       words = block-words table place words;
     }
 
-    target-is : base ≡ place → target (side .card x) 0 ≡ place
-    unfolding wordPlace
-    target-is r = ap (λ (y : Bases). y .«write_base» + 0) (g .kept .bases) ∙ omega arith
+    base-even : base ≡ baseAt place → EvenBase (side .card x)
+    base-even r = ap (λ (y : Bases). isEven (y .«write_base»)) (g .kept .bases) ∙ ap isEven r ∙ doubled place 0 .1
 
-    block-inside : base ≡ place → Inside (side .card x) 0 (block place)
+    target-is : base ≡ baseAt place → target (side .card x) 0 ≡ place
+    target-is r =
+        ap (λ (y : Bases). wordPlace (y .«write_base») 0) (g .kept .bases) ∙ ap (λ (n : ℕ). wordPlace n 0) r ∙ doubled place 0 .0 ∙ omega arith
+
+    block-inside : base ≡ baseAt place → Inside (side .card x) 0 (block place)
     block-inside r = rw (target-is r, block-long table place, is-size) (omega (arith, g .some, holds))
 
     -- the block goes to its place
-    block-written : (now : List ℕ) → BlockWritten (side .card x) memory 0 (block place) now → base ≡ place
+    block-written : (now : List ℕ) → BlockWritten (side .card x) memory 0 (block place) now → base ≡ baseAt place
         → now ≡ loadedTo table old (place + blockWords len place)
-    block-written now (i, e) r =
+    block-written now (_, _, e) r =
         e ∙ ap₂ (λ (m : List ℕ) (t : ℕ). written m t (block place)) (g .memory-is) (target-is r) ∙ written-next table old in-old place (omega (arith, g .some))
 
   -- ---- stage by stage
@@ -161,14 +165,14 @@ module _ (side : Side) (z : Known side) (table : List ℕ) (words : AreWords tab
       → CardEnded (6 * k) (waits o (base-stage place) past (begin x memory))
 
   -- after a block's messages
-  module _ (k : ℕ) (later : From k) (past : Past) {place j : ℕ} {x : side .State} {memory : List ℕ} (g : Goes place j place (past .calls) x memory)
+  module _ (k : ℕ) (later : From k) (past : Past) {place j : ℕ} {x : side .State} {memory : List ℕ} (g : Goes place j (baseAt place) (past .calls) x memory)
       (so-far : past .verdicts ≡ replicate (2 * j + 1) verdict.Done) (enough : len ≤ place + 63 * suc k) (e : Course (side .State))
       (m : WriteMeans side x memory 0 (block place) e) (cl : CardUndamaged passages (o .number) → EndsDone e) where
     abbrev block-end : Unit (side .State)
     block-end = settled o (block-stage place) past e
 
-    block-kept : Kept (withBase place (called side (b .side) (past .calls ++ e .calls))) (side .card (e .side))
-    block-kept = based-kept side (z .lawful) (starts g) place (side .card (e .side)) (past .calls) (e .calls) (g .kept) (m .kept)
+    block-kept : Kept (withBase (baseAt place) (called side (b .side) (past .calls ++ e .calls))) (side .card (e .side))
+    block-kept = based-kept side (z .lawful) (starts g) (baseAt place) (side .card (e .side)) (past .calls) (e .calls) (g .kept) (m .kept)
 
     block-new : BlockWritten (side .card x) memory 0 (block place) (e .memory) → e .memory ≡ loadedTo table old (place + blockWords len place)
     block-new w = block-written g (e .memory) w refl
@@ -176,7 +180,7 @@ module _ (side : Side) (z : Known side) (table : List ℕ) (words : AreWords tab
     block-unsure : e .turn ≡ 7 → (e .memory ≡ memory) ⊎ BlockWritten (side .card x) memory 0 (block place) (e .memory) → CardEnded (6 * k) block-end
     block-unsure t w =
         let number : 2 * j + 1 ≡ 2 * (place / 63) + 1 = omega (arith, g .at-block) in
-        stopped-here place j (g .at-block) (g .some) 1 place past e t (m .unrefused) block-kept (m .runs)
+        stopped-here place j (g .at-block) (g .some) 1 (baseAt place) past e t (m .unrefused) block-kept (m .runs)
         (inr (unsure-next (2 * j + 1) _ so-far number, ⊎-elim (λ y. inl (y ∙ g .memory-is)) (λ y. inr (block-new y)) w)) cl (6 * k)
 
     block-last : e .turn ≡ 6 → BlockWritten (side .card x) memory 0 (block place) (e .memory) → lastBlock (block-stage place) ≡ true → CardEnded (6 * k) block-end
@@ -189,7 +193,7 @@ module _ (side : Side) (z : Known side) (table : List ℕ) (words : AreWords tab
         record {
           load = Loaded;
           slot = slot;
-          means = loaded-means b table slot place block-kept (m .runs) (block-new w ∙ ap (loadedTo table old) end) (done-next (2 * j + 1) _ so-far number);
+          means = loaded-means b table slot (baseAt place) block-kept (m .runs) (block-new w ∙ ap (loadedTo table old) end) (done-next (2 * j + 1) _ so-far number);
           undamaged = λ y. refl;
           reaches = reached side table passages (6 * k) (last-done o cards len (o .number) place past e t (m .unrefused) last);
         }
@@ -200,7 +204,7 @@ module _ (side : Side) (z : Known side) (table : List ℕ) (words : AreWords tab
         let more : place + blockWords len place < len = leb-false _ _ last in
         let number : 2 * j + 1 + 1 ≡ 2 * suc j = omega arith in
         rw (block-done o cards len (o .number) place past e t (m .unrefused) last)
-        (later (place + blockWords len place) (suc j) place (oneMore past e) (e .side) (e .memory)
+        (later (place + blockWords len place) (suc j) (baseAt place) (oneMore past e) (e .side) (e .memory)
         (record { at-block = omega (arith, g .at-block); some = more; kept = block-kept; run = m .runs; memory-is = block-new w })
         (done-next (2 * j + 1) _ so-far number) (omega (arith, g .some)))
 
@@ -215,12 +219,12 @@ module _ (side : Side) (z : Known side) (table : List ℕ) (words : AreWords tab
   -- the messages of the stages: a base setting, and a WRITE
   base-staged : (past : Past) {place j base : ℕ} {x : side .State} {memory : List ℕ} → Goes place j base (past .calls) x memory
       → Staged side table passages o (base-stage place) past 3 (waits o (base-stage place) past (begin x memory))
-      (sureCommand side x memory baseCommand (baseBlock place) (fatesFrom passages (o .number) (past .sent)))
+      (sureCommand side x memory baseCommand (baseBlock (baseAt place)) (fatesFrom passages (o .number) (past .sent)))
   unfolding stageCommand stageBlock
   base-staged past {place} {j} {base} {x} {memory} g =
       staged side table passages lent o (base-stage place) (ready place j 0 (g .at-block) (g .some) (lit≤ tt)) refl (placed place 0) past x memory
 
-  block-staged : (past : Past) {place j : ℕ} {x : side .State} {memory : List ℕ} → Goes place j place (past .calls) x memory
+  block-staged : (past : Past) {place j : ℕ} {x : side .State} {memory : List ℕ} → Goes place j (baseAt place) (past .calls) x memory
       → Staged side table passages o (block-stage place) past 3 (waits o (block-stage place) past (begin x memory))
       (sureCommand side x memory (writeOf (length (block place)) 0) (block place) (fatesFrom passages (o .number) (past .sent)))
   unfolding stageCommand stageBlock
@@ -234,7 +238,7 @@ module _ (side : Side) (z : Known side) (table : List ℕ) (words : AreWords tab
   -- after a base setting's messages
   module _ (k : ℕ) (later : From k) (past : Past) {place j base : ℕ} {x : side .State} {memory : List ℕ} (g : Goes place j base (past .calls) x memory)
       (so-far : past .verdicts ≡ replicate (2 * j) verdict.Done) (enough : len ≤ place + 63 * suc k) (e : Course (side .State))
-      (m : BaseMeans side x memory place e) (cl : CardUndamaged passages (o .number) → EndsDone e) where
+      (m : BaseMeans side x memory (baseAt place) e) (cl : CardUndamaged passages (o .number) → EndsDone e) where
     abbrev base-end : Unit (side .State)
     base-end = settled o (base-stage place) past e
 
@@ -246,19 +250,19 @@ module _ (side : Side) (z : Known side) (table : List ℕ) (words : AreWords tab
         (inl (unsure-next (2 * j) _ so-far number, m .memory-kept ∙ g .memory-is)) cl (3 + 6 * k)
 
     base-unsure : e .turn ≡ 7
-        → Kept (called side x (e .calls)) (side .card (e .side)) ⊎ Kept (withBase place (called side x (e .calls))) (side .card (e .side))
+        → Kept (called side x (e .calls)) (side .card (e .side)) ⊎ Kept (withBase (baseAt place) (called side x (e .calls))) (side .card (e .side))
         → CardEnded (3 + 6 * k) base-end
     base-unsure t (inl y) = base-stopped base t (based-kept side (z .lawful) (starts g) base (side .card (e .side)) (past .calls) (e .calls) (g .kept) y)
-    base-unsure t (inr y) = base-stopped place t (based-based side (z .lawful) (starts g) base place (side .card (e .side)) (past .calls) (e .calls) (g .kept) y)
+    base-unsure t (inr y) = base-stopped (baseAt place) t (based-based side (z .lawful) (starts g) base (baseAt place) (side .card (e .side)) (past .calls) (e .calls) (g .kept) y)
 
-    base-next : e .turn ≡ 6 → Kept (withBase place (called side x (e .calls))) (side .card (e .side)) → CardEnded (3 + 6 * k) base-end
+    base-next : e .turn ≡ 6 → Kept (withBase (baseAt place) (called side x (e .calls))) (side .card (e .side)) → CardEnded (3 + 6 * k) base-end
     base-next t y =
         let past₁ : Past = oneMore past e in
-        let g₁ : Goes place j place (past₁ .calls) (e .side) (e .memory)
+        let g₁ : Goes place j (baseAt place) (past₁ .calls) (e .side) (e .memory)
         = record {
           at-block = g .at-block;
           some = g .some;
-          kept = based-based side (z .lawful) (starts g) base place (side .card (e .side)) (past .calls) (e .calls) (g .kept) y;
+          kept = based-based side (z .lawful) (starts g) base (baseAt place) (side .card (e .side)) (past .calls) (e .calls) (g .kept) y;
           run = m .runs;
           memory-is = m .memory-kept ∙ g .memory-is;
         } in
@@ -271,7 +275,7 @@ module _ (side : Side) (z : Known side) (table : List ℕ) (words : AreWords tab
         (block-case k later (sentTo past₁ (st .count)) g₁
         (done-next (2 * j) _ so-far refl) enough _
         (write-means side (z .lawful) (z .any) (e .side) (e .memory) 0 (block place) (write-sends g₁) f)
-        (λ c. write-undamaged side (z .lawful) (z .any-undamaged) (e .side) (e .memory) 0 (block place) (write-sends g₁) (block-inside g₁ refl) f (undamaged-fates c (past₁ .sent)))))
+        (λ c. write-undamaged side (z .lawful) (z .any-undamaged) (e .side) (e .memory) 0 (block place) (write-sends g₁) (base-even g₁ refl) (block-inside g₁ refl) f (undamaged-fates c (past₁ .sent)))))
 
     base-case : CardEnded (3 + 6 * k) base-end
     base-case = ⊎-elim (λ v. base-next (eqb-true (e .turn) 6 v) (m .done v)) (λ v. base-unsure (eqb-true (e .turn) 7 v) (m .unsure v)) (m .ends)
@@ -284,13 +288,13 @@ module _ (side : Side) (z : Known side) (table : List ℕ) (words : AreWords tab
   load-more k later place j base past x memory g s enough =
       let f : Fates = fatesFrom passages (o .number) (past .sent) in
       let st : Staged side table passages o (base-stage place) past 3 (waits o (base-stage place) past (begin x memory))
-      (sureCommand side x memory baseCommand (baseBlock place) f)
+      (sureCommand side x memory baseCommand (baseBlock (baseAt place)) f)
       = base-staged past g in
       ended-within (omega arith)
       (ended-later (st .reaches)
       (base-case k later (sentTo past (st .count)) g s enough _
-      (z .base x memory place (base-sends g) f)
-      (λ c. z .base-undamaged x memory place (base-sends g) f (undamaged-fates c (past .sent)))))
+      (z .base x memory (baseAt place) (base-sends g) f)
+      (λ c. z .base-undamaged x memory (baseAt place) (base-sends g) f (undamaged-fates c (past .sent)))))
 
   load-from : (k : ℕ) → From k
   load-from zero = load-none

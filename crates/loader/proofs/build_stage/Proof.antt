@@ -7,7 +7,7 @@ use mathlib.Core.Path.{_≡_, ap, _∙_}
 use borrow.Author.Needs.{needs}
 use lib.ListN.{length, take, drop}
 use Rattle.controller.specs.Base.{baseBlock}
-use Rattle.loader.specs.Loader.{blockWords, turnBlock}
+use Rattle.loader.specs.Loader.{blockWords, baseAt, turnBlock}
 use Rattle.loader.proofs.StepLaws.{block-none, block-base, block-part}
 use Rattle.loader.proofs.StateLaws.{limits}
 use Rattle.loader.proofs.build_stage.Statement.{statement}
@@ -22,11 +22,18 @@ returns c =
 
 returns-2 : tie.Need-returns-2
 returns-2 c =
-    let p = c .before .before .before .before .before .before .before in
+    let b = c .before .before .before .before .before in
+    let p = b .before in
     let q = p .before .before in
     let a = q .before .before .before .before .args in
-    let base : turnBlock (a .state) (a .table .now) ≡ baseBlock (a .state .place) = block-base (a .state) (a .table .now) (q .if1 .left) (p .if2 .taken) in
-    rw base (rw (q .before .stage-command .ensures) at (c .before .before .build-turn2 .ensures))
+    let base : turnBlock (a .state) (a .table .now) ≡ baseBlock (baseAt (a .state .place)) =
+    block-base (a .state) (a .table .now) (q .if1 .left) (p .if2 .taken) in
+    rw base (rw (q .before .stage-command .ensures, b .base-words .ensures) at (c .before .before .build-turn2 .ensures))
+
+base-words-requires : tie.Need-base-words-requires
+base-words-requires c κs =
+    let s = c .before .before .before .before .before .before in
+    omega (arith, limits (s .args .state) (s .pre .0) .place, limits (s .args .state) (s .pre .0) .length)
 
 block-words-requires : tie.Need-block-words-requires
 block-words-requires c κs =
@@ -62,8 +69,7 @@ build-stage-spec =
     (λ c κs. search needs)
     (λ c. search needs)
     returns
-    (λ c. search needs)
-    (λ c. search needs)
+    base-words-requires
     (λ c. search needs)
     (λ c κs. search needs)
     (λ c. search needs)
