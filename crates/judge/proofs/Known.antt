@@ -3,8 +3,8 @@
 use Prim.Native.Nat.{ℕ}
 use mathlib.Core.List.{List, [], _∷_}
 use mathlib.Core.Path.{_≡_, refl}
-use Rattle.bits.specs.Bits.{bits, number, stream}
 use borrow.Author.Tests.{eq-eqb}
+use Rattle.bits.specs.Bits.{bits, number, stream}
 use Rattle.crc.specs.Crc.{shift, step, feed, crc, taps4, crc4, crc16, agrees}
 use Rattle.rules.specs.Rules.{table, rowIn, ruleOf, messageWords, write, read, configWrite, configRead}
 use Rattle.rules.specs.declared.Rule.{Rule}

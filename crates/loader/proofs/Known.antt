@@ -1,6 +1,6 @@
--- Steps of loads, computed: what is refused first, and where a load goes on.
+-- Steps of loads, computed: what is refused first, which base is set, and where a load goes on.
 -- Assumes nothing.
-use mathlib.Core.List.{[]}
+use mathlib.Core.List.{[], _∷_}
 use mathlib.Core.Path.{_≡_, refl}
 use lib.ListN.{replicate}
 use Rattle.rules.specs.Refusals as refusal
@@ -34,6 +34,11 @@ pub give-order : (loadGiveRefusal (loader 2 64 0 64 1 2) 3 0 ≡ refusal.State) 
     × (loadGiveRefusal (loader 2 64 0 63 1 3) 2 4 ≡ refusal.None)
 unfolding loadGiveRefusal outOfLoad stands loadGoes isGive commandAt stageCommand messageWords
 give-order = (refl, refl, refl, refl, refl)
+
+-- the base that is set is the place doubled: of the second block, and of the last one of the longest table
+pub bases : (stageBlock (loader 2 64 0 63 0 2) [] ≡ 0 ∷ 126 ∷ []) × (stageBlock (loader 1 32768 0 32760 0 2) [] ≡ 0 ∷ 65520 ∷ [])
+unfolding stageBlock
+bases = (refl, refl)
 
 -- Unsure of base or block goes to the next card, Done of a base to its block, of a block to the next base or card
 pub moves : (moved (loader 2 64 0 0 0 5) 7 ≡ loader 2 64 1 0 0 0) × (moved (loader 2 64 0 0 1 5) 7 ≡ loader 2 64 1 0 0 0)

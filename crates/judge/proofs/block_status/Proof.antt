@@ -3,12 +3,12 @@
 use Prim.Native.Nat.{ℕ, _+_, _%_}
 use mathlib.Core.Bool.{Bool, true, false, cond, _&&_}
 use mathlib.Core.Path.{_≡_}
+use native.Mathlib.Omega.{arith}
+use borrow.Author.Needs.{needs}
 use lib.Dec.{eqb, leb}
 use Rattle.token.specs.Response.{clean}
 use Rattle.token.specs.declared.command.Command.{Command}
 use Rattle.judge.specs.Judge.{ar, wordPlace, isEven, inside, blockStatus}
-use native.Mathlib.Omega.{arith}
-use borrow.Author.Needs.{needs}
 use Rattle.judge.proofs.block_status.Statement.{statement}
 use Rattle.judge.proofs.block_status.Tie as tie
 
