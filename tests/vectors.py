@@ -9,7 +9,7 @@ from pathlib import Path
 
 sys.dont_write_bytecode = True  # leave no __pycache__ in the repository
 
-from second import known, refused_calls, sure, trace, unit, vector_records
+from second import apart, known, pins, refused_calls, sure, trace, unit, vector_records
 
 # Each file and its maker, which gives the number of records and the content.
 FILES = [
@@ -19,6 +19,8 @@ FILES = [
     ("crates/trace/stdout", trace.example_stdout),
     ("crates/trace_pins/stdin", trace.pins_stdin),
     ("crates/trace_pins/stdout", trace.pins_stdout),
+    ("crates/trace_apart/stdin", apart.stdin),
+    ("crates/trace_apart/stdout", apart.stdout),
     ("crates/refused_calls/stdin", refused_calls.stdin),
     ("crates/refused_calls/stdout", refused_calls.stdout),
     ("crates/sure_writes/stdin", sure.stdin),
@@ -66,7 +68,9 @@ def main(arguments):
     if arguments not in ([], ["--write"]):
         sys.exit(__doc__)
     known.self_test()
+    pins.self_test()
     trace.self_test()
+    apart.self_test()
     sure.self_test()
     refused_calls.self_test()
     unit.self_test()

@@ -1,8 +1,8 @@
-"""What the answers to single calls have in common: the refusal numbers and their order, and a buffer's check."""
+"""What the answers to calls and records have in common: the refusal numbers and their order, and a buffer's check."""
 
 from .checks import crc16
 
-SIZE, STATE, OPEN, CLOSED, ARGUMENT, ROOM, TURN, COUNT = range(1, 9)
+SIZE, STATE, OPEN, CLOSED, ARGUMENT, ROOM, TURN, COUNT, RECORD = range(1, 10)
 ORDER = (STATE, SIZE, OPEN, CLOSED, TURN, ARGUMENT, COUNT, ROOM)
 
 MOST_SIZE = 32768

@@ -1,6 +1,7 @@
-"""The card of document 01, section "The card", with the byte addresses of request 2: whole messages, each judged and
-answered at once."""
+"""The card of document 01, section "The card", with the byte addresses of request 2 and the pair of request 3: a
+message's words are kept as they came in and as they were told, and judged together at release."""
 
+from functools import lru_cache
 from typing import NamedTuple
 
 from .addresses import is_odd, word_address
@@ -34,21 +35,63 @@ def with_module(card, value):
     return card._replace(stf=field(value, 4, 4), module_state=field(value, 3, 0))
 
 
-def whole_message(card, words, left, memories):
-    """The words sent in a message, and the card and the memory after it; the card has the status bits that it set.
+class Message(NamedTuple):
+    """An open message; Message() is the one at select."""
 
-    words has all whole words that came, and left is the number of left-over bits. memories has the memory as it is in
-    the call that sends each word and, last, at release. A word is sent for each of them, one more than came: the first
-    bits of the last one go out while the left-over bits come in.
-    """
-    memory = memories[-1]
-    sent = words_sent(card, words, memories)
+    words: tuple = ()  # all whole words that came
+    told: tuple = ()  # the word told for each of them
+    note: int = None  # the word told for the next one, None where none is told
+
+
+# Request 3 (document 02): the next word out, apart from the word in.
+
+def tell(card, message, memory):
+    """The next word out, and the message with the note of it; an earlier telling no longer counts."""
+    word = next_word(card, message, memory)
+    return word, message._replace(note=word)
+
+
+def take(card, message, word, memory):
+    """The message with the word that came in, and without a note."""
+    if message.note is None:
+        _, message = tell(card, message, memory)  # it counts as told just before
+    return Message((*message.words, word), (*message.told, message.note))
+
+
+def release(card, message, left, memory):
+    """The card and the memory after the message; the card has the status bits that it set. left is the number of
+    left-over bits."""
+    words = message.words
     if not words and not left:
-        return sent, card, memory
+        return card, memory
     status = judge(card, words, left)
     if status != CLEAN:
-        return sent, card._replace(status=status), memory
-    return sent, card_after(card, words), memory_after(card, words, memory)
+        return card._replace(status=status), memory
+    return card_after(card, words), memory_after(card, words, memory)
+
+
+# The exchange in one call: tell, then take, on one memory.
+
+def exchanged(card, words, memories):
+    """The words sent for these, and the message after them. memories has the memory in the call of each word."""
+    message, sent = Message(), []
+    for word, memory in zip(words, memories):
+        told, message = tell(card, message, memory)
+        message = take(card, message, word, memory)
+        sent.append(told)
+    return sent, message
+
+
+def whole_message(card, words, left, memories):
+    """The words sent in a message, and the card and the memory after it.
+
+    memories has the memory in the call of each word and, last, at release. A word is sent for each of them, one more
+    than came: the first bits of the last one go out while the left-over bits come in.
+    """
+    memory = memories[-1]
+    sent, message = exchanged(card, words, memories)
+    last, message = tell(card, message, memory)
+    return [*sent, last], *release(card, message, left, memory)
 
 
 # Judgement, steps 1 to 5. Each gives the status bits that it sets, or CLEAN, and is asked where those before it passed.
@@ -136,29 +179,30 @@ def start(card, words):
 
 # Words sent.
 
-def words_sent(card, words, memories):
-    """A word for each memory, that of the call which sends it."""
-    token = response_token(card.stf, *card.status, card.module_state)
-    # Words 1 and 2 depend on no word that came, those behind them on the first two: word k only on words before k.
-    zeros = [0] * len(memories)
-    return [*token, *payload_sent(card, words, memories[2:]), *zeros][:len(memories)]
+def next_word(card, message, memory):
+    """The word sent while the next one comes in. Words 1 and 2 depend on no word that came, those behind them on the
+    first two. READ's are in this memory, and its check is over the words told; READBACK's check is over the token."""
+    words = message.words
+    if len(words) < 2:
+        return response_token(card.stf, *card.status, card.module_state)[len(words)]
+    code, length, place = answering(card, words[:2])
+    number = len(words) - 2
+    if code is None or number > length:
+        return 0
+    if number == length:
+        # READ of length 0 has no check word; the CRC-16 of nothing is the 0x0000 that stands there.
+        return crc16(message.told[2:] if code == READ else card.last_token)
+    return memory[place + number] if code == READ else card.last_token[number]
 
 
-def payload_sent(card, words, memories):
-    """What READ or READBACK sends from the third word on."""
-    if len(words) < 2 or first_failing(TOKEN_STEPS, card, words, 0) != CLEAN:
-        return []
-    code, length, _ = command(words)
-    if code == READ:
-        # Where the message ends before its payload does, there are fewer memories, and none that would send the check.
-        place = start(card, words)
-        payload = [memory[place + number] for number, memory in enumerate(memories[:length])]
-    elif code == READBACK:
-        payload = card.last_token
-    else:
-        return []
-    # READ of length 0 has no check word; the CRC-16 of nothing is the 0x0000 that stands there.
-    return [*payload, crc16(payload)]
+@lru_cache(maxsize=1)  # the same for every word of a message
+def answering(card, token):
+    """Code, length and place of a READ or READBACK whose token passes steps 1 to 3; all other tokens have no code."""
+    if first_failing(TOKEN_STEPS, card, token, 0) == CLEAN:
+        code, length, _ = command(token)
+        if code in (READ, READBACK):
+            return code, length, start(card, token)
+    return None, 0, 0
 
 
 # Step 6: what an accepted message does.

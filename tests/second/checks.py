@@ -19,6 +19,11 @@ def number(bit_list):
     return value
 
 
+def word_bits(words):
+    """The bits of words in order, each from bit 15."""
+    return [bit for word in words for bit in bits(word, 16)]
+
+
 def crc(polynomial, width, message_bits):
     """The remainder of the message, with width zeros behind it, by the polynomial; the start value is 0."""
     rest = list(message_bits) + [0] * width
@@ -38,5 +43,4 @@ def crc4(word1, word2):
 
 def crc16(words):
     """The CRC-16 of payload words in order, each from bit 15."""
-    message_bits = [bit for word in words for bit in bits(word, 16)]
-    return crc(CRC16_POLYNOMIAL, 16, message_bits)
+    return crc(CRC16_POLYNOMIAL, 16, word_bits(words))

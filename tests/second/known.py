@@ -1,7 +1,8 @@
-"""The values printed in document 01, some of request 2 worked by hand, and the test of this program against them."""
+"""The values printed in document 01, some of requests 2 and 3 worked by hand, and the test of this program against
+them."""
 
 from .addresses import base_of
-from .card import AR, CLEAN, IC, ME, Card, judge, whole_message
+from .card import AR, CLEAN, IC, ME, Card, exchanged, judge, take, tell, whole_message
 from .checks import crc4, crc16
 from .tokens import (
     CONFIG_WRITE, READ, READBACK, RESET, ROWS, SYNCH, TICK, WRITE,
@@ -66,6 +67,14 @@ JUDGED_BY_BASES = [
     (513, 513, read(1, 0), AR),
     (0xFFFFFFFE, 0xFFFFFFFE, write(1, []), AR),
     (0xFFFFFFFF, 0xFFFFFFFF, config_write(1), CLEAN),
+]
+
+# Request 3, READ of one word: what its place holds in each telling and in the taking, and the check of what counts.
+TOLD = [
+    ([1], 2, 0x8005),
+    ([1, 2], 3, 0x800F),
+    ([2, 1, 3], 1, 0x000A),
+    ([], 3, 0x000A),
 ]
 
 GOOD = (True, True, True)
@@ -136,6 +145,19 @@ def test_changing_memory():
     agree("memory after WRITE", memory, [50, 7, 8, 53])
 
 
+def test_tell_and_take():
+    """Request 3: the word told counts, of several the last one, and where none is told the one that take would tell."""
+    card = Card(1)
+    for tellings, taking, check in TOLD:
+        _, message = exchanged(card, read(1, 0)[:2], [[0], [0]])
+        for word in tellings:
+            told, message = tell(card, message, [word])
+            agree("word told by READ, and the note of it", (told, message.note), (word, word))
+        message = take(card, message, 0, [taking])
+        agree("note after a word taken", message.note, None)
+        agree(f"check after {tellings} and {taking}", tell(card, message, [0])[0], check)
+
+
 def self_test():
     """Raises AssertionError where a value of the documents is not met."""
     test_commands()
@@ -145,3 +167,4 @@ def self_test():
     test_judgement()
     test_byte_bases()
     test_changing_memory()
+    test_tell_and_take()

@@ -1,20 +1,25 @@
 """What `refused_calls` answers to its stored records: single calls, each with its refusal number and what it left."""
 
 from itertools import combinations, product
+from typing import NamedTuple
 
 from . import load_calls, load_records, refused_records
 from .call_answers import ARGUMENT, CLOSED, COUNT, MOST_SIZE, OPEN, ROOM, SIZE, STATE, TURN, check, refusal
-from .card import CLEAN, Card, whole_message, with_module
+from .card import CLEAN, Card, Message, release, take, tell, with_module
 from .checks import crc16
 from .refused_records import (
-    AT_PINS, BIT, CLEAR, DONE, LEFT_OVER, LENDING, MODULE, NEXT_WORD, RELEASE, SELECT, UNSURE, WORD, Ask, Build, CardCall,
-    Give, PinCall, PowerUp, Read, Shift, Start, Verdict, kind_of_call, message_words,
+    AT_PINS, BIT, CLEAR, CLOCK, DONE, LEFT_OVER, LENDING, MODULE, NOT_TOLD, NOTED, NOTES, RELEASE, SELECT, TAKE, TAKEN,
+    TELL, TOLD, UNSURE, Ask, Build, CardCall, Give, PinCall, PowerUp, Read, Shift, Start, Verdict, kind_of_call,
+    message_words,
 )
 from .sure import read_back
 from .tokens import READ, READBACK, WRITE, command_token, read_command, read_response
 from .trace_records import with_answer, with_payload
 
 MOST_RECEIVED = 67
+
+# The running check of the words told behind the token, in a given state.
+GIVEN_CHECK = 0
 
 # What the program has room for.
 MOST_WORDS, MOST_MEMORY = 100, 300
@@ -100,20 +105,55 @@ def card_faults(module_state, size, count, is_open, call, given, left):
     }
 
 
-def card(module_state, size, count, is_open, call, given, left):
-    number = refusal(card_faults(module_state, size, count, is_open, call, given, left))
-    if number:
-        return number, is_open, count, module_state, 0
-    before = Card(size, module_state=module_state)
+class State(NamedTuple):
+    """A card with its message. In a given state the message may be closed and have words and a note all the same, and
+    the note may have a word that is not told."""
+
+    card: Card
+    message: Message
+    is_open: int
+    not_told: int = 0
+
+
+def given_state(module_state, size, count, is_open, note):
+    """The words told are zeros as well, whose check is GIVEN_CHECK."""
+    message = Message((0,) * count, (0,) * count, NOTED if note == TOLD else None)
+    return State(Card(size, module_state=module_state), message, is_open, NOTED if note == NOT_TOLD else 0)
+
+
+def note_numbers(state):
+    """Whether a word is told, and the note's word."""
+    note = state.message.note
+    return (0, state.not_told) if note is None else (1, note)
+
+
+def called(state, call, given, left):
+    """The state after a call that is not refused, and the word that it gave. A new state has no word that is not told:
+    only the module call leaves it."""
+    before, message, is_open, _ = state
+    memory = [7] * given if call in LENDING else None
     if call == SELECT:
-        return 0, 1, 0, module_state, 0
+        return State(before, Message(), 1), 0
     if call == MODULE:
-        return 0, 0, count, with_module(before, 1 << 4 | given).module_state, 0
-    sent, after, _ = whole_message(before, [0] * count, left, [[7] * given] * (count + 1))
-    if call == RELEASE:
-        return 0, 0, 0, after.module_state, 0
-    # Further words are counted as 67; asking for the next word counts none.
-    return 0, 1, min(count + (call == WORD), MOST_RECEIVED), module_state, sent[count]
+        return state._replace(card=with_module(before, 1 << 4 | given)), 0
+    if call == TELL:
+        word, message = tell(before, message, memory)
+        return State(before, message, is_open), word
+    if call == TAKE:
+        return State(before, take(before, message, TAKEN, memory), is_open), 0
+    after, _ = release(before, message, left, memory)
+    return State(after, Message(), 0), 0
+
+
+def card(module_state, size, count, is_open, note, call, given, left):
+    number = refusal(card_faults(module_state, size, count, is_open, call, given, left))
+    state = given_state(module_state, size, count, is_open, note)
+    if number:
+        return number, is_open, count, module_state, 0, *note_numbers(state), GIVEN_CHECK
+    state, word = called(state, call, given, left)
+    words = min(len(state.message.words), MOST_RECEIVED)  # further ones are counted as 67
+    check_told = crc16(state.message.told[2:])
+    return 0, state.is_open, words, state.card.module_state, word, *note_numbers(state), check_told
 
 
 def shift(count, taken, sending, call, next_word):
@@ -123,14 +163,25 @@ def shift(count, taken, sending, call, next_word):
     return 0, {BIT: (count + 1) % 16, CLEAR: 0, LEFT_OVER: count}[call], count if call == LEFT_OVER else 0
 
 
-def pins(module_state, size, count, is_open, call, given, shifted):
-    call = AT_PINS[call]
+def clocked(state, given, shifted):
+    """The state after one clock: a word is told with its first bit and taken with its last."""
+    call = {0: TELL, 15: TAKE}.get(shifted)
+    return called(state, call, given, 0)[0] if call else state
+
+
+def pins(module_state, size, count, is_open, note, pin_call, given, shifted):
+    call = AT_PINS[pin_call]
     faults = card_faults(module_state, size, count, is_open, call, given, shifted)
     # The shifter belongs to the state of every call here; its count is what release takes as left-over bits.
     number = refusal({**faults, STATE: faults[STATE] or shifted > 15})
+    state = given_state(module_state, size, count, is_open, note)
     if number:
-        return number, is_open, shifted
-    return 0, int(call in (SELECT, WORD)), {SELECT: 0, WORD: (shifted + 1) % 16}.get(call, shifted)
+        return number, is_open, shifted, *note_numbers(state)
+    if pin_call == CLOCK:
+        state = clocked(state, given, shifted)
+    else:
+        state, _ = called(state, call, given, shifted)
+    return 0, state.is_open, {SELECT: 0, TAKE: (shifted + 1) % 16}.get(call, shifted), *note_numbers(state)
 
 
 ANSWERS = {
@@ -179,13 +230,13 @@ REFUSALS = {
     (Verdict, 0): {STATE},
     (CardCall, SELECT): {STATE, OPEN},
     (CardCall, MODULE): {STATE, OPEN, ARGUMENT},
-    (CardCall, NEXT_WORD): {STATE, SIZE, CLOSED},
-    (CardCall, WORD): {STATE, SIZE, CLOSED},
+    (CardCall, TELL): {STATE, SIZE, CLOSED},
+    (CardCall, TAKE): {STATE, SIZE, CLOSED},
     (CardCall, RELEASE): {STATE, SIZE, CLOSED, ARGUMENT},
     **{(Shift, call): {STATE} for call in (BIT, CLEAR, LEFT_OVER)},
     (PinCall, 1): {STATE, OPEN},
     (PinCall, 2): {STATE, OPEN, ARGUMENT},
-    (PinCall, 3): {STATE, SIZE, CLOSED},
+    (PinCall, CLOCK): {STATE, SIZE, CLOSED},
     (PinCall, 4): {STATE, SIZE, CLOSED},  # a shifter's count above 15 is State, so no left-over bits are refused
     **load_calls.REFUSALS,
 }
@@ -225,12 +276,42 @@ def test_room(record):
         raise AssertionError(f"too much memory: {record}")
 
 
+# Where the note's two numbers stand in an answer.
+NOTE_AT = {CardCall: 5, PinCall: 3}
+
+
+def test_note(record):
+    """A refused call leaves the note. In others a word told changes nothing but the note and the running check behind
+    it, and one that is not told nothing but the note's word, where the call leaves it."""
+    at = NOTE_AT[type(record)]
+    without, told, not_told = (answer(record._replace(note=note)) for note in NOTES)
+    still_told, still_not_told = ((*without[:at], flag, NOTED, *without[at + 2:]) for flag in (1, 0))
+    if without[0]:
+        right = (told, not_told) == (still_told, still_not_told)
+    else:
+        right = told[:at] == without[:at] and not_told in (without, still_not_told)
+    if not right:
+        raise AssertionError(f"another answer by the note: {record}")
+
+
+def test_running_check(record):
+    """Only a word that is told and taken behind the token moves it: the words told otherwise are zeros there."""
+    number, *_, found = answer(record)
+    counted = not number and record.call == TAKE and record.count >= 2 and record.note == TOLD
+    if found != (crc16([NOTED]) if counted else GIVEN_CHECK):
+        raise AssertionError(f"another check of the words told: {record}")
+
+
 def self_test():
-    """Raises AssertionError where a refusal is not met, or a record is too large, or two operations have one letter, or
-    the loader's lack something."""
+    """Raises AssertionError where a refusal is not met, or a record is too large, or a note or the running check does
+    what it must not, or two operations have one letter, or the loader's lack something."""
     kinds = {}
     for record in all_records():
         test_room(record)
+        if type(record) in NOTE_AT:
+            test_note(record)
+        if type(record) == CardCall:
+            test_running_check(record)
         kinds.setdefault(kind_of_call(record), []).append(record)
     letters = [letter for letter, _ in ANSWERS.values()]
     if len({*letters}) != len(letters):

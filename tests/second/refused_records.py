@@ -2,8 +2,9 @@
 
 A record has 14 bytes: the operation, x (1 byte), and six numbers of 2 bytes each, high byte first. A type below has its
 numbers in this order, those of WITH_X from x on; the places that it does not use are 0. Words are given by their number:
-the block's are 1, 2, 3 and so on, the buffer (room) is full of 0xFFFF, and the memory full of 7. The loader's records
-are in load_records.
+the block's are 1, 2, 3 and so on, the buffer (room) is full of 0xFFFF, and the memory full of 7. Of a given card,
+is_open and note are one number: bit 0 says that a message is open, bit 1 that a word is told, which then is NOTED, and
+bit 2 that none is told, but the note's word is NOTED all the same. The loader's records are in load_records.
 """
 
 from collections import namedtuple
@@ -20,9 +21,9 @@ Start = namedtuple("Start", "length sub_address")
 Ask = namedtuple("Ask", "turn length sub_address block room")
 Give = namedtuple("Give", "turn length sub_address count first second further")
 Verdict = namedtuple("Verdict", "turn length sub_address")
-CardCall = namedtuple("CardCall", "module_state size count is_open call given left")
+CardCall = namedtuple("CardCall", "module_state size count is_open note call given left")
 Shift = namedtuple("Shift", "count taken sending call next_word")
-PinCall = namedtuple("PinCall", "module_state size count is_open call given shifted")
+PinCall = namedtuple("PinCall", "module_state size count is_open note call given shifted")
 
 OPERATIONS = (PowerUp, Build, Read, Start, Ask, Give, Verdict, CardCall, Shift, PinCall)
 WITH_X = (Ask, Give, Verdict, CardCall, Shift, PinCall)
@@ -31,12 +32,19 @@ WITH_X = (Ask, Give, Verdict, CardCall, Shift, PinCall)
 DONE, UNSURE = 6, 7
 
 # The calls of the card; those at the pins, each with the card's call that is refused alike; those of the bit shifter.
-SELECT, MODULE, NEXT_WORD, WORD, RELEASE = range(1, 6)
-AT_PINS = {1: SELECT, 2: MODULE, 3: WORD, 4: RELEASE}
+SELECT, MODULE, TELL, TAKE, RELEASE = range(1, 6)
+CLOCK = 3  # at the pins, of one bit
+AT_PINS = {1: SELECT, 2: MODULE, CLOCK: TAKE, 4: RELEASE}
 BIT, CLEAR, LEFT_OVER = range(1, 4)
 
 # The calls whose given number is the lent memory's words. With MODULE it is the module state; SELECT has no use for it.
-LENDING = (NEXT_WORD, WORD, RELEASE)
+LENDING = (TELL, TAKE, RELEASE)
+
+# The word told in a given state, and the one taken.
+NOTED, TAKEN = 0x5A5A, 0x1234
+
+# The notes of a given state. None of document 01's ranges shuts out a word that is not told.
+NOTES = NOTHING, TOLD, NOT_TOLD = range(3)
 
 CLEAN_RESPONSE = (0x8000, 0x8780)
 
@@ -47,8 +55,10 @@ def packed_call(operation, x, numbers):
 
 
 def packed(record):
-    kind = type(record)
-    x, *numbers = record if kind in WITH_X else (0, *record)
+    kind, fields = type(record), record._asdict()
+    if "note" in fields:
+        fields["is_open"] += 2 * fields.pop("note")
+    x, *numbers = fields.values() if kind in WITH_X else (0, *record)
     return packed_call(OPERATIONS.index(kind) + 1, x, numbers)
 
 
@@ -149,7 +159,7 @@ def verdicts():
 
 def card_calls():
     """One call of each kind that is not refused."""
-    return [CardCall(3, 4, 1, int(call in LENDING), call, 4, 0) for call in range(1, 6)]
+    return [CardCall(3, 4, 1, int(call in LENDING), NOTHING, call, 4, 0) for call in range(1, 6)]
 
 
 def card_states():
@@ -180,14 +190,20 @@ def card_arguments():
 
 
 def response_words():
-    """Next word and word where the response token's words are sent, and zeros behind them."""
+    """Tell where the response token's words are sent, and zeros behind them; take, which gives no word."""
     states = [(count, module_state) for count in (0, 1, 2, 66) for module_state in (0, 9)]
     return [call._replace(count=count, module_state=state) for call in card_calls()[2:4] for count, state in states]
 
 
+def counted_words():
+    """Take where the word is one of the token, which no check counts, and behind it, up to those that are dropped."""
+    take = card_calls()[TAKE - 1]
+    return [take._replace(count=count) for count in (0, 1, 2, 3, 66, 67)]
+
+
 def card_orders():
     records = []
-    arguments = {MODULE: {"given": 16}, NEXT_WORD: {"given": 5}, WORD: {"given": 5}, RELEASE: {"given": 5, "left": 16}}
+    arguments = {MODULE: {"given": 16}, TELL: {"given": 5}, TAKE: {"given": 5}, RELEASE: {"given": 5, "left": 16}}
     for lawful in card_calls():
         other = 1 - lawful.is_open
         records += pairs(lawful, size=0, is_open=other, **arguments.get(lawful.call, {}))
@@ -205,15 +221,24 @@ def at_the_pins():
     records = []
     for call, as_card in AT_PINS.items():
         is_open = int(as_card in LENDING)
-        lawful = PinCall(3, 4, 1, is_open, call, 4, 7)
-        records += alone(lawful, shifted=(0, 14, 15, 16, 200), is_open=(1 - is_open,))
+        lawful = PinCall(3, 4, 1, is_open, NOTHING, call, 4, 7)
+        records += alone(lawful, shifted=(0, 1, 14, 15, 16, 200), is_open=(1 - is_open,))
         records += alone(lawful, size=(0, 32768, 32769), count=(67, 68), module_state=(15, 16))
         edges = {SELECT: (), MODULE: (15, 16)}.get(as_card, (3, 5))
         records += alone(lawful, given=edges)
         records += pairs(lawful, shifted=16, size=0, is_open=1 - is_open, **{"given": 16} if edges else {})
-    # A bit that completes a word, also one that is dropped.
-    bit = PinCall(3, 4, 1, 1, 3, 4, 15)
-    return records + alone(bit, count=(0, 66, 67)) + [bit._replace(size=size, given=size) for size in (1, 300)]
+    return records
+
+
+def first_and_last_bits():
+    """A word's first bit, with which it is told, and its last, with which it is taken; also those of dropped words."""
+    records = []
+    for shifted in (0, 15):
+        clock = PinCall(3, 4, 1, 1, NOTHING, CLOCK, 4, shifted)
+        records += alone(clock, count=(0, 2, 66, 67), module_state=(9,), given=(3,), is_open=(0,))
+        records += [clock._replace(size=size, given=size) for size in (1, 300)]
+        records += pairs(clock, size=0, given=5, is_open=0)
+    return records
 
 
 # Drawn records.
@@ -236,10 +261,23 @@ def drawn(draw):
     yield Ask(turn, length, sub_address, near(draw, block), near(draw, words_asked))
     yield Give(turn + 1, length, sub_address, near(draw, words_asked), *words)
     size, count, is_open = draw.between(1, 299), near(draw, draw.below(68)), draw.below(2)
-    state = (near(draw, draw.below(16)), size, count, is_open)
+    state = (near(draw, draw.below(16)), size, count, is_open, NOTHING)
     yield CardCall(*state, *draw.pick(((SELECT, 0), (MODULE, draw.below(18)))), 0)
     yield CardCall(*state, draw.pick(LENDING), near(draw, size), near(draw, draw.below(16)))
-    yield PinCall(*state, draw.pick((3, 4)), near(draw, size), near(draw, draw.below(16)))
+    yield PinCall(*state, draw.pick((CLOCK, 4)), near(draw, size), near(draw, draw.below(16)))
+
+
+def with_note(records, note):
+    """Those of a card, alone and behind the shifter, with this note in the given state."""
+    return [record._replace(note=note) for record in records if "note" in record._fields]
+
+
+def with_a_word_told(records):
+    return with_note(records, TOLD)
+
+
+def with_a_word_not_told(records):
+    return with_note(records, NOT_TOLD)
 
 
 def each_once(records):
@@ -251,10 +289,14 @@ def each_once(records):
 def all_records():
     groups = (
         power_ups, built_messages, answers, starts, asked, given, verdicts, card_states, card_memories, open_and_closed,
-        card_arguments, response_words, card_orders, shifters, at_the_pins,
+        card_arguments, response_words, card_orders, shifters, at_the_pins, first_and_last_bits,
     )
     records = [record for group in groups for record in group()]
     draw = Draw(13)
     for _ in range(6):
         records += drawn(draw)
-    return each_once(records)
+    records += with_a_word_told(records)
+    # Behind the drawn ones, so that those keep their places.
+    counted = counted_words()
+    records += counted + with_a_word_told(counted)
+    return each_once(records + with_a_word_not_told(records))

@@ -6,7 +6,7 @@ from typing import NamedTuple
 
 from .addresses import is_odd, word_address
 from .card import CLEAN, Card, whole_message, with_module
-from .checks import bits, crc16, number
+from .checks import crc16, number, word_bits
 from .sure_records import CALM, CUT, FLIPPED, MEMORY, UNDAMAGED, UNSEEN, Prepare, all_records, packed
 from .tokens import read_command, read_response
 from .trace_records import config_read, config_write, readback, write
@@ -27,10 +27,6 @@ class End(NamedTuple):
 
 # The line.
 
-def line_of(words):
-    return [bit for word in words for bit in bits(word, 16)]
-
-
 def words_of(line):
     return [number(line[start:start + 16]) for start in range(0, len(line) // 16 * 16, 16)]
 
@@ -43,13 +39,13 @@ def heard(card, memory, line):
     """What the card sends for a line, a bit for each bit, and the card and memory after it."""
     words = words_of(line)
     sent, card, memory = whole_message(card, words, len(line) % 16, [memory] * (len(words) + 1))
-    return line_of(sent)[:len(line)], card, memory
+    return word_bits(sent)[:len(line)], card, memory
 
 
 def crossed(card, memory, words, damage):
     """The words that the controller reads for those that it sent, and the card and memory after them."""
     kind, fill, there, back = damage
-    line, got = line_of(words), []
+    line, got = word_bits(words), []
     if kind == CUT:
         got, card, memory = heard(card, memory, line[:there])
     elif kind != UNSEEN:  # FLIPPED, and every number that is no kind

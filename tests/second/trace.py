@@ -3,24 +3,22 @@
 import re
 from functools import lru_cache
 from pathlib import Path
-from typing import NamedTuple
 
-from . import example
-from .card import Card, whole_message, with_module, words_sent
+from . import example, pins
+from .call_answers import ARGUMENT, CLOSED, OPEN, RECORD
+from .card import Card, exchanged, whole_message, with_module
 from .trace_drawn import drawn_traces
 from .trace_listed import (
     damaged_writes, dropped_writes, first_failing_step, listed_traces, most_words, odd_configs, readbacks,
     short_messages,
 )
-from .trace_records import MODULE, RELEASE, SELECT, WORD
+from .trace_records import (
+    MEMORY_WORDS, MODULE, MOST_LEFT, RECORD_BYTES, RELEASE, SELECT, WORD, Record, parts, record_of,
+)
 
 EXAMPLES = Path(__file__).resolve().parents[2] / "examples"
-MEMORY_WORDS = 256
-RECORD_BYTES = 4
-MOST_LEFT = 15
 MOST_MODULE = 31
-
-OPEN, CLOSED, ARGUMENT, RECORD = 3, 4, 5, 9
+MOST_AT_PINS = 20_000
 
 # The kind of a record that is unfinished, or whose kind is unknown.
 NO_KIND = 0
@@ -30,18 +28,11 @@ REFUSED_INSIDE = {SELECT: OPEN, MODULE: OPEN, RELEASE: ARGUMENT, NO_KIND: RECORD
 REFUSED_OUTSIDE = {WORD: CLOSED, RELEASE: CLOSED, MODULE: ARGUMENT, NO_KIND: RECORD}
 
 
-class Record(NamedTuple):
-    kind: int
-    value: int = 0
-    word: int = 0
-
-
-def record_of(part):
-    """The record of these bytes, fewer than four at the end of the input."""
+def known_record(part):
+    """The record of these bytes, or one without a kind."""
     if len(part) < RECORD_BYTES or part[0] not in (SELECT, WORD, RELEASE, MODULE):
         return Record(NO_KIND)
-    kind, value, high, low = part
-    return Record(kind, value, high << 8 | low)
+    return record_of(part)
 
 
 def ends_message(record):
@@ -77,7 +68,7 @@ def message_lines(card, memory, records):
     words = [record.word for record in inside if record.kind == WORD]
     # No record changes the memory inside a message, so it is the same in every call.
     if not ends_message(records[-1]):
-        sent = words_sent(card, words, [memory] * len(words))
+        sent, _ = exchanged(card, words, [memory] * len(words))
         return ["S", *inside_lines(inside, sent)], card, memory
     *inside, release = inside
     sent, card, memory = whole_message(card, words, release.value, [memory] * (len(words) + 1))
@@ -93,9 +84,8 @@ def outside_line(card, record):
 
 def replay(records):
     """The whole output of the trace program for these input bytes."""
-    starts = range(0, len(records), RECORD_BYTES)
     card, memory, lines = Card(MEMORY_WORDS), [0] * MEMORY_WORDS, []
-    for group in groups(record_of(records[start:start + RECORD_BYTES]) for start in starts):
+    for group in groups(map(known_record, parts(records))):
         if group[0].kind == SELECT:
             added, card, memory = message_lines(card, memory, group)
             lines += added
@@ -115,15 +105,20 @@ def example_stdout():
     return example.OUTPUT.count("\n"), example.OUTPUT.encode()
 
 
-def pins_stdin():
-    """The example, and messages of every shape: at the pins their bits come one by one, with up to 15 left over."""
+def whole_words():
+    """The example, and messages of every shape. Of kinds 1 to 3 only: `trace` answers them as `trace_pins` does."""
     makers = (short_messages, readbacks, dropped_writes, damaged_writes, first_failing_step, most_words, odd_configs)
-    records = b"".join([example.RECORDS, *(make() for make in makers)])
+    return b"".join([example.RECORDS, *(make() for make in makers)])
+
+
+def pins_stdin():
+    """Whole words with up to 15 left-over bits, and then words in pieces, in whose midst the device writes."""
+    records = whole_words() + b"".join(pins.all_records())
     return len(records) // RECORD_BYTES, records
 
 
 def pins_stdout():
-    output = replay(pins_stdin()[1])
+    output = pins.output(pins_stdin()[1])
     return output.count("\n"), output.encode()
 
 
@@ -154,10 +149,19 @@ def shown(name):
     return output.count("\n"), output.encode()
 
 
+def test_pins():
+    """Bit by bit, whole words give the same lines."""
+    if pins.output(whole_words()) != replay(whole_words()):
+        raise AssertionError("another output at the pins")
+    if pins_stdin()[0] > MOST_AT_PINS:
+        raise AssertionError(f"{pins_stdin()[0]} records at the pins")
+
+
 def self_test():
-    """Raises AssertionError where the example differs or a drawn line is missing."""
+    """Raises AssertionError where the example differs, or the pins do, or a drawn line is missing."""
     if replay(example.RECORDS) != example.OUTPUT:
         raise AssertionError("the example of document 01 gives another output")
+    test_pins()
     drawn = all_outputs()[len(listed_traces()):]
     lines = {line for output in drawn for line in output.splitlines() if line[0] in "RE"}
     wanted = {"R 000", "R 100", "R 010", "R 001", "R 101", "E 3", "E 4", "E 5", "E 9"}

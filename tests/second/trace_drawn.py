@@ -100,11 +100,15 @@ def with_left_bits(draw, message):
     return message, draw.between(1, 15)
 
 
-def drawn_message(draw):
-    message = weighted(draw, MESSAGES)(draw)
+def mostly_whole(draw, message):
+    """The message, one in four damaged."""
     if draw.below(4):
         return message, 0
     return draw.pick((flipped, flipped, cut, longer, with_left_bits))(draw, message)
+
+
+def drawn_message(draw):
+    return mostly_whole(draw, weighted(draw, MESSAGES)(draw))
 
 
 # Records.

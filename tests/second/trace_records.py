@@ -1,11 +1,36 @@
 """Records of the trace program, and the messages that they carry."""
 
+from typing import NamedTuple
+
 from .checks import crc16
 from .tokens import (
     CONFIG_READ, CONFIG_WRITE, READ, READBACK, RESET, SYNCH, TICK, WRITE, command_token,
 )
 
 SELECT, WORD, RELEASE, MODULE = 1, 2, 3, 4
+
+RECORD_BYTES = 4
+
+# The memory of the trace programs, and the most left-over bits that a release is not refused for.
+MEMORY_WORDS = 256
+MOST_LEFT = 15
+
+
+class Record(NamedTuple):
+    kind: int
+    value: int = 0
+    word: int = 0
+
+
+def parts(records):
+    """The bytes of each record, fewer than four where the last one is unfinished."""
+    return [records[start:start + RECORD_BYTES] for start in range(0, len(records), RECORD_BYTES)]
+
+
+def record_of(part):
+    """The record of these four bytes."""
+    kind, value, high, low = part
+    return Record(kind, value, high << 8 | low)
 
 
 def record(kind, value=0, word=0):

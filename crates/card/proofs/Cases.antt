@@ -5,18 +5,18 @@ use Prim.Native.Nat.{ℕ}
 use native.Mathlib.Omega.{arith}
 use mathlib.Core.Bool.{Bool, true, false}
 use mathlib.Core.List.{List}
-use mathlib.Core.Path.{_≡_}
+use mathlib.Core.Path.{_≡_, refl, ap, _∙_}
 use lib.ListN.{length}
 use Rattle.rules.specs.Refusals as refusal
 use Rattle.rules.proofs.Cases.{by-test, by-number}
 use Rattle.token.specs.Response.{anySet}
 use Rattle.card.specs.Release.{silent, judged, acted, noted, ended, endedMemory, releaseRefusal, released, memoryAfter}
 use Rattle.card.specs.Card.{givesCard, powered, selected, moduleRefusal, moduleSet, wordRefusal}
-use Rattle.card.specs.Exchange.{nextWord, taken, told, exchanged}
-use Rattle.card.specs.State.{emptied, fresh, withMessage, withModule, sized, outOfRange}
+use Rattle.card.specs.Exchange.{Exchanged, checkAfter, nextWord, taken, told, took, exchanged, withTold, wordTold}
+use Rattle.card.specs.State.{emptied, fresh, withMessage, withModule, withNote, sized, outOfRange}
 use Rattle.card.specs.declared.Card.{Card}
 use Rattle.card.specs.declared.CardAfter.{CardAfter}
-use Rattle.card.specs.declared.Exchanged.{Exchanged}
+use Rattle.card.specs.declared.Note.{Note}
 use Rattle.card.specs.declared.Told.{Told}
 
 -- ---- power-up
@@ -46,21 +46,86 @@ pub module-case : (P : CardAfter → Type 0) (c : Card) (stf : Bool) (state : �
 unfolding moduleSet
 module-case P c stf state = by-number P (moduleRefusal c state)
 
--- ---- next word and word
+-- ---- tell and take
 
 pub told-case : (P : Told → Type 0) (c : Card) (memory : List ℕ)
-    → ((wordRefusal c (length memory) ≡ refusal.None → ⊥) → P (record { refusal = wordRefusal c (length memory); word = 0 }))
-    → (wordRefusal c (length memory) ≡ refusal.None → P (record { refusal = refusal.None; word = nextWord c memory }))
+    → ((wordRefusal c (length memory) ≡ refusal.None → ⊥) → P (record { refusal = wordRefusal c (length memory); card = c; word = 0 }))
+    → (wordRefusal c (length memory) ≡ refusal.None → P (record { refusal = refusal.None; card = withTold c memory; word = nextWord c memory }))
     → P (told c memory)
 unfolding told
 told-case P c memory = by-number P (wordRefusal c (length memory))
+
+pub took-case : (P : CardAfter → Type 0) (c : Card) (memory : List ℕ) (word : ℕ)
+    → ((wordRefusal c (length memory) ≡ refusal.None → ⊥) → P (givesCard (wordRefusal c (length memory)) c))
+    → (wordRefusal c (length memory) ≡ refusal.None → P (givesCard refusal.None (withMessage c (taken c word (wordTold c memory)))))
+    → P (took c memory word)
+unfolding took
+took-case P c memory word = by-number P (wordRefusal c (length memory))
+
+-- where they are not refused
+pub told-quiet : (c : Card) (memory : List ℕ) → wordRefusal c (length memory) ≡ refusal.None
+    → told c memory ≡ record { refusal = refusal.None; card = withTold c memory; word = nextWord c memory }
+unfolding told
+told-quiet c memory quiet = rw quiet
+
+pub took-quiet : (c : Card) (memory : List ℕ) (word : ℕ) → wordRefusal c (length memory) ≡ refusal.None
+    → took c memory word ≡ givesCard refusal.None (withMessage c (taken c word (wordTold c memory)))
+unfolding took
+took-quiet c memory word quiet = rw quiet
+
+-- the word that goes out, by the note
+pub as-noted : (c : Card) (memory : List ℕ) → c .port .message .note .told ≡ true → wordTold c memory ≡ c .port .message .note .word
+unfolding wordTold
+as-noted c memory h = rw h
+
+pub none-told : (c : Card) (memory : List ℕ) → c .port .message .note .told ≡ false → wordTold c memory ≡ nextWord c memory
+unfolding wordTold
+none-told c memory h = rw h
+
+-- ---- a word told, and then one taken
+
+-- a note changes no refusal, and so a telling changes none
+pub note-refusal : (c : Card) (n : Note) (size : ℕ) → wordRefusal (withNote c n) size ≡ wordRefusal c size
+unfolding wordRefusal outOfRange
+note-refusal c n size = refl
+
+pub told-refusal : (c : Card) (memory : List ℕ) (size : ℕ) → wordRefusal (withTold c memory) size ≡ wordRefusal c size
+unfolding wordRefusal outOfRange withTold
+told-refusal c memory size = refl
+
+-- the word told is the one that goes out, whatever memory is lent by then
+told-goes-out : (c : Card) (memory other : List ℕ) → wordTold (withTold c memory) other ≡ nextWord c memory
+unfolding wordTold withTold
+told-goes-out c memory other = refl
+
+-- and nothing else of the telling is left when the other is taken
+taken-noted : (c : Card) (memory : List ℕ) (word sent : ℕ) → withMessage (withTold c memory) (taken (withTold c memory) word sent) ≡ withMessage c (taken c word sent)
+unfolding withTold taken checkAfter
+taken-noted c memory word sent = refl
+
+pub took-noted : (c : Card) (memory other : List ℕ) (word : ℕ) → wordRefusal c (length other) ≡ refusal.None
+    → took (withTold c memory) other word ≡ givesCard refusal.None (withMessage c (taken c word (nextWord c memory)))
+took-noted c memory other word quiet =
+    took-quiet (withTold c memory) other word (told-refusal c memory (length other) ∙ quiet)
+    ∙ ap (λ (w : ℕ). givesCard refusal.None (withMessage (withTold c memory) (taken (withTold c memory) word w))) (told-goes-out c memory other)
+    ∙ ap (givesCard refusal.None) (taken-noted c memory word (nextWord c memory))
 
 pub exchanged-case : (P : Exchanged → Type 0) (c : Card) (memory : List ℕ) (word : ℕ)
     → ((wordRefusal c (length memory) ≡ refusal.None → ⊥) → P (record { refusal = wordRefusal c (length memory); card = c; sent = 0 }))
     → (wordRefusal c (length memory) ≡ refusal.None → P (record { refusal = refusal.None; card = withMessage c (taken c word (nextWord c memory)); sent = nextWord c memory }))
     → P (exchanged c memory word)
 unfolding exchanged
-exchanged-case P c memory word = by-number P (wordRefusal c (length memory))
+exchanged-case P c memory word refused done =
+    told-case (λ t. P (record { refusal = t .refusal; card = took (t .card) memory word .card; sent = t .word })) c memory
+    (λ r. took-case (λ a. P (record { refusal = wordRefusal c (length memory); card = a .card; sent = 0 })) c memory word refused (λ q. absurd (r q)))
+    (λ q. rw (took-noted c memory memory word q) (done q))
+
+-- where it is not refused
+pub exchanged-quiet : (c : Card) (memory : List ℕ) (word : ℕ) → wordRefusal c (length memory) ≡ refusal.None
+    → exchanged c memory word ≡ record { refusal = refusal.None; card = withMessage c (taken c word (nextWord c memory)); sent = nextWord c memory }
+exchanged-quiet c memory word quiet =
+    exchanged-case (λ e. e ≡ record { refusal = refusal.None; card = withMessage c (taken c word (nextWord c memory)); sent = nextWord c memory }) c memory word
+    (λ r. absurd (r quiet)) (λ q. refl)
 
 -- ---- release: the card, and the lent memory
 

@@ -10,10 +10,10 @@ use lib.Dec.{ltb}
 use lib.ListN.{length, take, replicate, set, length-append, length-take}
 use lib.Seq.{set-append-seam, take-all, take-at}
 use Rattle.card.specs.Card.{wordRefusal}
-use Rattle.card.specs.Exchange.{told, exchanged, nextWord, checkAfter, taken}
-use Rattle.card.specs.State.{emptied, withMessage, outOfRange}
+use Rattle.card.specs.Exchange.{Exchanged, told, exchanged, nextWord, checkAfter, taken}
+use Rattle.card.specs.State.{emptied, noNote, withMessage, outOfRange}
 use Rattle.card.specs.declared.Card.{Card}
-use Rattle.card.specs.declared.Exchanged.{Exchanged}
+use Rattle.card.proofs.Cases.{exchanged-quiet}
 use Rattle.card.proofs.Laws.{InRange}
 use Rattle.card.proofs.Sound.{not-out}
 use Rattle.card.specs.Whole.{after, answers, listed, refusals}
@@ -30,7 +30,7 @@ room ws = ws ++ replicate (67 - length ws) 0
 
 -- the card with these words taken, and the running check
 unfoldable pub holding : Card → List ℕ → ℕ → Card
-holding c ws k = withMessage c (record { opened = true; count = length ws; words = room ws; check = k })
+holding c ws k = withMessage c (record { opened = true; note = noNote; count = length ws; words = room ws; check = k })
 
 -- the running check after one word more
 unfoldable pub nextCheck : Card → List ℕ → List ℕ → ℕ → ℕ
@@ -85,27 +85,32 @@ module _ (c : Card) (memory : List ℕ) (idle : Idle c memory) where
   unfolding wordRefusal holding
   word-quiet ws k h = rw (holding-range ws k h, eq-eqb _ _ (idle .lent))
 
-  -- next word tells it
+  -- tell gives it
   told-held : (ws : List ℕ) (k : ℕ) → length ws ≤ 67 → told (holding c ws k) memory .word ≡ nextWord (holding c ws k) memory
   unfolding told
   told-held ws k h = rw (word-quiet ws k h)
 
   -- one word, whether or not it finds room
+  taken-held : (ws : List ℕ) (k w : ℕ) → length ws ≤ 67
+      → withMessage (holding c ws k) (taken (holding c ws k) w (nextWord (holding c ws k) memory)) ≡ holding c (push ws w) (nextCheck c memory ws k)
+  unfolding taken holding nextCheck push
+  taken-held ws k w h = go (ltb (length ws) 67) refl
+    where
+      go : (b : Bool) → ltb (length ws) 67 ≡ b
+          → withMessage (holding c ws k) (taken (holding c ws k) w (nextWord (holding c ws k) memory)) ≡ holding c (push ws w) (nextCheck c memory ws k)
+      go true e =
+          let free : length ws < 67 = ltb-true (length ws) 67 e in
+          rw (e, room-set ws w free, take-all 67 (ws ++ (w ∷ [])) (simp length-append (omega arith)), length-append ws (w ∷ []))
+      go false e =
+          let all : length ws ≡ 67 = omega (arith, ltb-false (length ws) 67 e) in
+          rw (e, take-at ws (w ∷ []) 67 all)
+
   pub step : (ws : List ℕ) (k w : ℕ) → length ws ≤ 67
       → exchanged (holding c ws k) memory w
       ≡ record { refusal = 0; card = holding c (push ws w) (nextCheck c memory ws k); sent = nextWord (holding c ws k) memory }
-  unfolding exchanged taken holding nextCheck push
-  step ws k w h = go (ltb (length ws) 67) refl
-    where
-      go : (b : Bool) → ltb (length ws) 67 ≡ b
-          → exchanged (holding c ws k) memory w
-          ≡ record { refusal = 0; card = holding c (push ws w) (nextCheck c memory ws k); sent = nextWord (holding c ws k) memory }
-      go true e =
-          let free : length ws < 67 = ltb-true (length ws) 67 e in
-          rw (word-quiet ws k h, e, room-set ws w free, take-all 67 (ws ++ (w ∷ [])) (simp length-append (omega arith)), length-append ws (w ∷ []))
-      go false e =
-          let all : length ws ≡ 67 = omega (arith, ltb-false (length ws) 67 e) in
-          rw (word-quiet ws k h, e, take-at ws (w ∷ []) 67 all)
+  step ws k w h =
+      exchanged-quiet (holding c ws k) memory w (word-quiet ws k h)
+      ∙ ap (λ (d : Card). record { refusal = 0; card = d; sent = nextWord (holding c ws k) memory }) (taken-held ws k w h)
 
   -- the card after some words, what it sent, and that it refused none
   pub after-held : (ws : List ℕ) (k : ℕ) (vs : List ℕ) → length ws ≤ 67

@@ -1,10 +1,13 @@
 pub mod Cases
 pub mod Closed
+pub mod Examples
 pub mod Holding
 pub mod Laws
 pub mod Places
 pub mod Ranges
+pub mod Reading
 pub mod Refusals
 pub mod Sound
 pub mod Stays
+pub mod Telling
 pub mod Unique

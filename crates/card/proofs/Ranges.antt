@@ -10,12 +10,12 @@ use lib.Dec.{ltb}
 use Rattle.rules.specs.Refusals as refusal
 use Rattle.card.specs.Release.{acted, noted, ended, released}
 use Rattle.card.specs.Card.{powered, selected, moduleSet}
-use Rattle.card.specs.Exchange.{exchanged, nextWord, taken}
+use Rattle.card.specs.Exchange.{exchanged, taken, told, took, withTold, wordTold}
 use Rattle.card.specs.State.{emptied, fresh, withMessage}
 use Rattle.card.specs.declared.Card.{Card}
 use Rattle.card.specs.declared.Message.{Message}
 use Rattle.rules.proofs.Cases.{by-test}
-use Rattle.card.proofs.Cases.{powered-case, selected-case, module-case, exchanged-case, released-case, ended-case}
+use Rattle.card.proofs.Cases.{powered-case, selected-case, module-case, told-case, took-case, released-case, ended-case}
 use Rattle.card.proofs.Laws.{InRange, settable}
 
 pub powered-ranged : (size : ℕ) → powered size .refusal ≡ refusal.None → InRange (powered size .card)
@@ -42,10 +42,19 @@ unfolding taken
 taken-count c word sent h =
     by-test (λ n. n ≤ 67) (ltb (c .port .message .count) 67) (λ t. omega (arith, ltb-true (c .port .message .count) 67 t)) (λ t. h)
 
+pub told-ranged : (c : Card) (memory : List ℕ) → InRange c → InRange (told c memory .card)
+unfolding withTold
+told-ranged c memory i =
+    told-case (λ t. InRange (t .card)) c memory (λ r. i) (λ q. record { size = i .size; count = i .count; module-state = i .module-state })
+
+pub took-ranged : (c : Card) (memory : List ℕ) (word : ℕ) → InRange c → InRange (took c memory word .card)
+took-ranged c memory word i =
+    took-case (λ a. InRange (a .card)) c memory word (λ r. i)
+    (λ q. message-ranged c (taken c word (wordTold c memory)) i (taken-count c word (wordTold c memory) (i .count)))
+
 pub exchanged-ranged : (c : Card) (memory : List ℕ) (word : ℕ) → InRange c → InRange (exchanged c memory word .card)
-exchanged-ranged c memory word i =
-    exchanged-case (λ e. InRange (e .card)) c memory word (λ r. i)
-    (λ q. message-ranged c (taken c word (nextWord c memory)) i (taken-count c word (nextWord c memory) (i .count)))
+unfolding exchanged
+exchanged-ranged c memory word i = took-ranged (told c memory .card) memory word (told-ranged c memory i)
 
 ended-ranged : (c : Card) (left : ℕ) → InRange c → InRange (ended c left)
 unfolding noted acted emptied

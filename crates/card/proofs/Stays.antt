@@ -15,10 +15,10 @@ use Rattle.token.specs.Response.{anySet}
 use Rattle.judge.proofs.Laws.{never}
 use Rattle.card.specs.Release.{silent, judged, writes, endedMemory, releaseRefusal, memoryAfter}
 use Rattle.card.specs.Card.{selected, moduleSet}
-use Rattle.card.specs.Exchange.{exchanged, fields, responseOf, nextWord}
+use Rattle.card.specs.Exchange.{checkAfter, taken, told, took, exchanged, withTold, wordTold, fields, responseOf}
 use Rattle.card.specs.declared.Card.{Card}
 use Rattle.rules.proofs.Cases.{by-test}
-use Rattle.card.proofs.Cases.{selected-case, module-case, exchanged-case, memory-case}
+use Rattle.card.proofs.Cases.{selected-case, module-case, told-case, took-case, memory-case}
 use Rattle.card.proofs.Laws.{settable}
 
 -- ---- memory
@@ -44,19 +44,29 @@ memory-changes c memory left =
 
 -- ---- the answer
 
+-- it does not depend on the word taken; nor does what is kept of the words told
 pub answer-alone : (c : Card) (memory : List ℕ) (word other : ℕ) → exchanged c memory word .sent ≡ exchanged c memory other .sent
-answer-alone c memory word other =
-    exchanged-case (λ e. e .sent ≡ exchanged c memory other .sent) c memory word
-    (λ r. exchanged-case (λ e. 0 ≡ e .sent) c memory other (λ r. refl) (λ q. absurd (r q)))
-    (λ q. exchanged-case (λ e. nextWord c memory ≡ e .sent) c memory other (λ r. absurd (r q)) (λ q. refl))
+unfolding exchanged
+answer-alone c memory word other = refl
+
+pub check-alone : (c : Card) (memory : List ℕ) (word other : ℕ) → took c memory word .card .port .message .check ≡ took c memory other .card .port .message .check
+unfolding taken
+check-alone c memory word other =
+    took-case (λ a. a .card .port .message .check ≡ took c memory other .card .port .message .check) c memory word
+    (λ r. took-case (λ a. c .port .message .check ≡ a .card .port .message .check) c memory other (λ r. refl) (λ q. absurd (r q)))
+    (λ q. took-case (λ a. checkAfter c (wordTold c memory) ≡ a .card .port .message .check) c memory other (λ r. absurd (r q)) (λ q. refl))
 
 -- ---- the response, from select on
 
 pub select-holds : (c : Card) → responseOf (selected c .card) ≡ responseOf c
 select-holds c = selected-case (λ a. responseOf (a .card) ≡ responseOf c) c (λ n r. refl) (λ r o. refl)
 
-pub word-holds : (c : Card) (memory : List ℕ) (word : ℕ) → responseOf (exchanged c memory word .card) ≡ responseOf c
-word-holds c memory word = exchanged-case (λ e. responseOf (e .card) ≡ responseOf c) c memory word (λ r. refl) (λ q. refl)
+pub tell-holds : (c : Card) (memory : List ℕ) → responseOf (told c memory .card) ≡ responseOf c
+unfolding withTold
+tell-holds c memory = told-case (λ t. responseOf (t .card) ≡ responseOf c) c memory (λ r. refl) (λ q. refl)
+
+pub take-holds : (c : Card) (memory : List ℕ) (word : ℕ) → responseOf (took c memory word .card) ≡ responseOf c
+take-holds c memory word = took-case (λ a. responseOf (a .card) ≡ responseOf c) c memory word (λ r. refl) (λ q. refl)
 
 -- a module-state call changes nothing while a message is open
 pub module-holds : (c : Card) (stf : Bool) (state : ℕ) → c .port .message .opened ≡ true → moduleSet c stf state .card ≡ c

@@ -34,7 +34,7 @@ moduleSet c stf state =
     (givesCard refusal.None (withModule c stf state))
     (givesCard (moduleRefusal c state) c)
 
--- next word, word and release, for lent memory of some size: State, Size, Closed
+-- tell, take and release, for lent memory of some size: State, Size, Closed
 unfoldable pub wordRefusal : Card → ℕ → ℕ
 wordRefusal c size =
     cond (outOfRange c) refusal.State

@@ -1,6 +1,6 @@
--- Words sent. The next word depends on the card and its memory alone, never on the word that is taken while it is sent.
+-- Words told and taken. The next word depends on the card and its memory alone, never on the word that is taken while it is sent.
 use Prim.Native.Nat.{ℕ, _+_, _-_}
-use mathlib.Core.Bool.{Bool, cond, not, _&&_}
+use mathlib.Core.Bool.{cond, _&&_}
 use mathlib.Core.List.{List, [], _∷_}
 use lib.Dec.{eqb, leb, ltb}
 use lib.ListN.{length, getD, set}
@@ -16,9 +16,9 @@ use Rattle.token.specs.declared.response.Status.{Status}
 use Rattle.rules.specs.Refusals as refusal
 use Rattle.card.specs.declared.Card.{Card}
 use Rattle.card.specs.declared.Told.{Told}
-use Rattle.card.specs.declared.Exchanged.{Exchanged}
-use Rattle.card.specs.Card.{wordRefusal}
-use Rattle.card.specs.State.{withMessage}
+use Rattle.card.specs.Card.{givesCard, wordRefusal}
+use Rattle.card.specs.State.{noteOf, noNote, withMessage, withNote}
+use Rattle.card.specs.declared.CardAfter.{CardAfter}
 use Rattle.card.specs.declared.Message.{Message}
 
 -- the command token's two words, as received, and its fields
@@ -69,22 +69,23 @@ nextWord c memory =
     (cond (eqb (c .port .message .count) 1) (responseSecond (responseOf c))
     (payloadWord c memory (c .port .message .count - 2)))
 
--- the next word is one of READ's payload
-unfoldable pub sendsRead : Card → Bool
-sendsRead c =
-    leb 2 (c .port .message .count) && not (anySet (heardStatus c)) && eqb (fields c .code) (read .code)
-    && ltb (c .port .message .count - 2) (fields c .length)
+-- ---- the word taken
 
--- the running check moves with READ's payload words alone
+-- the word that goes out meanwhile: the one told, as noted; where none is told, the next word
+unfoldable pub wordTold : Card → List ℕ → ℕ
+wordTold c memory = cond (c .port .message .note .told) (c .port .message .note .word) (nextWord c memory)
+
+-- the running check goes over the words told behind the token, once for each word taken
 unfoldable pub checkAfter : Card → ℕ → ℕ
-checkAfter c sent = cond (sendsRead c) (crc16After (c .port .message .check) (sent ∷ [])) (c .port .message .check)
+checkAfter c sent = cond (leb 2 (c .port .message .count)) (crc16After (c .port .message .check) (sent ∷ [])) (c .port .message .check)
 
--- the message after a word taken while another was sent. Further words than 67 are counted as 67 and dropped.
+-- the message after a word taken while another was sent. Further words than 67 are counted as 67 and dropped. No word is told now.
 unfoldable pub taken : Card → ℕ → ℕ → Message
 taken c word sent =
     let m = c .port .message in
     record {
       opened = m .opened;
+      note = noNote;
       count = cond (ltb (m .count) 67) (m .count + 1) (m .count);
       words = cond (ltb (m .count) 67) (set (m .words) (m .count) word) (m .words);
       check = checkAfter c sent;
@@ -92,15 +93,32 @@ taken c word sent =
 
 -- ---- the operations. A refusal gives its number, the state it was given, and the word 0.
 
--- next word: the word that the card will send
+-- the card with its next word told: nothing but the note changes
+unfoldable pub withTold : Card → List ℕ → Card
+withTold c memory = withNote c (noteOf (nextWord c memory))
+
+-- tell: gives the next word
 unfoldable pub told : Card → List ℕ → Told
 told c memory =
-    cond (eqb (wordRefusal c (length memory)) refusal.None) (record { refusal = refusal.None; word = nextWord c memory })
-    (record { refusal = wordRefusal c (length memory); word = 0 })
+    cond (eqb (wordRefusal c (length memory)) refusal.None)
+    (record { refusal = refusal.None; card = withTold c memory; word = nextWord c memory })
+    (record { refusal = wordRefusal c (length memory); card = c; word = 0 })
 
--- word: takes one word, sends the next word
+-- take: takes the received word
+unfoldable pub took : Card → List ℕ → ℕ → CardAfter
+took c memory word =
+    cond (eqb (wordRefusal c (length memory)) refusal.None)
+    (givesCard refusal.None (withMessage c (taken c word (wordTold c memory))))
+    (givesCard (wordRefusal c (length memory)) c)
+
+-- ---- a word exchanged: tell, then take, on one memory
+
+pub record Exchanged : Type 0 where
+  pub refusal : ℕ
+  pub card : Card
+  pub sent : ℕ
+
 unfoldable pub exchanged : Card → List ℕ → ℕ → Exchanged
 exchanged c memory word =
-    cond (eqb (wordRefusal c (length memory)) refusal.None)
-    (record { refusal = refusal.None; card = withMessage c (taken c word (nextWord c memory)); sent = nextWord c memory })
-    (record { refusal = wordRefusal c (length memory); card = c; sent = 0 })
+    let t = told c memory in
+    record { refusal = t .refusal; card = took (t .card) memory word .card; sent = t .word }

@@ -1,6 +1,6 @@
 -- The card's state. What belongs to a port (status bits, last token, open message) stands apart from what the card has in common.
 use Prim.Native.Nat.{ℕ}
-use mathlib.Core.Bool.{Bool, false, not, _&&_, _||_}
+use mathlib.Core.Bool.{Bool, true, false, not, _&&_, _||_}
 use lib.Dec.{leb, ltb}
 use lib.ListN.{replicate}
 use Rattle.rules.specs.Rules.{reset}
@@ -8,11 +8,19 @@ use Rattle.token.specs.Command.{command, commandToken}
 use Rattle.token.specs.Response.{clean}
 use Rattle.card.specs.declared.Card.{Card}
 use Rattle.card.specs.declared.Message.{Message}
+use Rattle.card.specs.declared.Note.{Note}
 use Rattle.card.specs.declared.Port.{Port}
 
--- a message with no word received: room for 67 words, all zero, and count 0
+-- the note of the word told: whether one is told, and which; the word is 0 where none is
+abbrev pub noteOf : ℕ → Note
+noteOf w = record { told = true; word = w }
+
+abbrev pub noNote : Note
+noNote = record { told = false; word = 0 }
+
+-- a message with no word received: room for 67 words, all zero, count 0, and no word told
 unfoldable pub emptied : Bool → Message
-emptied o = record { opened = o; count = 0; words = replicate 67 0; check = 0 }
+emptied o = record { opened = o; note = noNote; count = 0; words = replicate 67 0; check = 0 }
 
 -- power-up: time 0, both bases 0, status bits 0, module state 0, STF 0, last token = the RESET token
 unfoldable pub fresh : ℕ → Card
@@ -39,6 +47,12 @@ withPort c p = record {
 -- the card with another message
 abbrev pub withMessage : Card → Message → Card
 withMessage c m = withPort c (record { status = c .port .status; last = c .port .last; message = m })
+
+-- the card with another note
+abbrev pub withNote : Card → Note → Card
+withNote c n =
+    let m = c .port .message in
+    withMessage c (record { opened = m .opened; note = n; count = m .count; words = m .words; check = m .check })
 
 -- the card with another STF and module state
 abbrev pub withModule : Card → Bool → ℕ → Card

@@ -1,5 +1,5 @@
 // The SPI-2 card: its state goes in by value and comes back. Memory is lent with each call that needs it.
-// Its word and release calls stand in the crates `exchange` and `release`; all definitions of the card stand in this crate's specs.
+// Its tell, take and release calls stand in the crates `exchange` and `release`; all definitions of the card stand in this crate's specs.
 ghost use mathlib.Core.Path.{_≡_};
 ghost use Rattle.card.specs.Card.{powered, selected, moduleRefusal, moduleSet, wordRefusal};
 ghost use Rattle.card.specs.Exchange.{tokenHeard};
@@ -9,9 +9,17 @@ use rules::refusal;
 use token::command::CommandToken;
 use token::response::Status;
 
-// The open message: its words in room for 67, how many came, and the running check of the words that READ sent.
+// The note of the word told: whether one is told, and which. The word is 0 where none is.
+pub struct Note {
+    pub told: bool,
+    pub word: u16,
+}
+
+// The open message: the note of the word told, its words in room for 67, how many came, and the running check of the words told
+// behind the token. The note stands where it takes no space of its own: a card is copied with each word.
 pub struct Message {
     pub opened: bool,
+    pub note: Note,
     pub count: usize,
     pub words: [u16; 67],
     pub check: u16,
@@ -39,17 +47,11 @@ pub struct CardAfter {
     pub card: Card,
 }
 
-// A refusal's number, or 0, and the word that the card will send.
+// A refusal's number, or 0, the state after, and the word that the card will send.
 pub struct Told {
     pub refusal: u8,
-    pub word: u16,
-}
-
-// A refusal's number, or 0, the state after, and the word that was sent.
-pub struct Exchanged {
-    pub refusal: u8,
     pub card: Card,
-    pub sent: u16,
+    pub word: u16,
 }
 
 // The last token at power-up: the RESET token, with its CRC-4.
@@ -63,6 +65,10 @@ pub fn empty_message(opened: bool) -> Message
 {
     Message {
         opened,
+        note: Note {
+            told: false,
+            word: 0,
+        },
         count: 0,
         words: [0; 67],
         check: 0,
@@ -182,7 +188,7 @@ pub fn set_module(card: Card, stf: bool, state: u8) -> CardAfter
     }
 }
 
-// The refusal of next word, word and release, for lent memory of some size.
+// The refusal of tell, take and release, for lent memory of some size.
 pub fn word_refusal(card: Card, size: usize) -> u8
     ensures { λ r. ⌜ r ≡ wordRefusal card size ⌝ }
 {

@@ -22,13 +22,14 @@ use Rattle.token.proofs.Good.{both}
 use Rattle.token.specs.Response.{anySet}
 use Rattle.judge.specs.Judge.{tokenStatus, isChecked}
 use Rattle.card.specs.Release.{noted}
-use Rattle.card.specs.Run.{Run, Select, Word, Release}
+use Rattle.card.specs.Run.{Run, Select, Release}
 use Rattle.card.specs.declared.Card.{Card}
 use Rattle.controller.specs.Builder.{payload, message}
 use Rattle.card.specs.Whole.{after, listened, cardAfterLine, memoryAfterLine, heard}
 use Rattle.delivery.specs.Play.{Crossed, crossed}
 use Rattle.card.proofs.Holding.{Idle}
 use Rattle.card.proofs.Closed.{judgedBy, unheard, cardActed, memoryActed, cardEnded, memoryEnded, card-heard, memory-heard, refusals-heard, heard-idle}
+use Rattle.card.proofs.Sound.{word-run}
 use Rattle.delivery.proofs.Accept.{Whole, whole, Sendable, AsBuilt, built-flipped, built-cut}
 
 -- ---- a line that a card heard
@@ -141,7 +142,7 @@ crossed-idle c memory idle (Flipped i j) line = heard-idle c memory idle (flippe
 run-after : {c : Card} → Run c → (memory ws : List ℕ) → Run (after c memory ws)
 unfolding after
 run-after r memory [] = r
-run-after r memory (w ∷ ws) = run-after (Word r memory w) memory ws
+run-after r memory (w ∷ ws) = run-after (word-run r memory w) memory ws
 
 run-heard : {c : Card} → Run c → (memory : List ℕ) (line : List Bool) → Run (cardAfterLine c memory line)
 unfolding cardAfterLine listened

@@ -23,7 +23,7 @@ use Rattle.card.specs.Release.{basesAfter, timeAfter, silent, judged, acted, no
 use Rattle.bits.specs.Buffers.{written}
 use Rattle.card.specs.Card.{powered, selected, moduleRefusal, moduleSet, wordRefusal}
 use Rattle.card.specs.Run as run
-use Rattle.card.specs.Exchange.{exchanged, readbackWord, passedWord, payloadWord, nextWord, told, sendsRead, checkAfter, taken}
+use Rattle.card.specs.Exchange.{exchanged, readbackWord, passedWord, payloadWord, nextWord, told, took, withTold, wordTold, checkAfter, taken}
 use Rattle.card.specs.State.{emptied, fresh, sized, outOfRange}
 use Rattle.card.specs.declared.Card.{Card}
 use Rattle.card.specs.declared.Message.{Message}
@@ -243,7 +243,7 @@ unfolding started-up buffers calls written-before based quiet readTurn end middl
     withCheck checkRight goodMarks responseFirst responseSecond responseMarks goodResponse responseFields responseRead
     anySet firstFailing step1 lengthFits subFits subStatus step2 wordPlace isEven inside blockStatus step3 tokenStatus step4 isChecked checkStatus step5 endStatus judgement
     basesAfter timeAfter written silent judged acted noted ended writes stored endedMemory
-    selected wordRefusal exchanged releaseRefusal released memoryAfter readbackWord passedWord payloadWord nextWord told sendsRead checkAfter taken
+    selected wordRefusal exchanged releaseRefusal released memoryAfter readbackWord passedWord payloadWord nextWord told took withTold wordTold checkAfter taken
     powered emptied fresh sized outOfRange readRefusal tokenGood payloadGood fieldsRead answerRead
     isReading withCheckWord payload message blockFits buildRefusal bufferAfter
     commandAt isAsk isGive readGood passes isToken confirms turnAfter started controller.outOfRange askRefusal asked askedBuffer giveRefusal given verdictOf

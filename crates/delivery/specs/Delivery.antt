@@ -1,7 +1,7 @@
 -- Demand 3: what the sure write's verdict means, however its three messages are damaged.
 --
 -- It is stated over the definitions that the contracts of card and controller cite, so over what their functions compute:
---   the card        `powered`, `selected`, `moduleSet`, `told`, `exchanged`, `released`, `memoryAfter` (crate card, Whole.antt, puts them together to
+--   the card        `powered`, `selected`, `moduleSet`, `told`, `took`, `released`, `memoryAfter` (crate card, Whole.antt, puts them together to
 --                   whole messages),
 --   at the pins     `poweredPins`, `selectedPins`, `modulePins`, `clocked`, `releasedPins`, `memoryAfterPins` (crate pins, AtPins.antt),
 --   the controller  `started`, `asked` with `askedBuffer`, `given`, `verdictOf`,

@@ -1,11 +1,11 @@
 -- Each public operation's contract leaves one answer.
 -- Assumes nothing.
 use mathlib.Core.Path.{_≡_, sym, _∙_}
-use Rattle.exchange.proofs.next_word.Reads as next-word
-use Rattle.exchange.proofs.word.Reads as word
+use Rattle.exchange.proofs.take.Reads as take
+use Rattle.exchange.proofs.tell.Reads as tell
 
-pub one-next-word : (κs : _) (a : _) (r s : _) (e f : _) → next-word.Post κs a r e → next-word.Post κs a s f → r ≡ s
-one-next-word κs a r s e f p q = p ∙ sym q
+pub one-tell : (κs : _) (a : _) (r s : _) (e f : _) → tell.Post κs a r e → tell.Post κs a s f → r ≡ s
+one-tell κs a r s e f p q = p ∙ sym q
 
-pub one-word : (κs : _) (a : _) (r s : _) (e f : _) → word.Post κs a r e → word.Post κs a s f → r ≡ s
-one-word κs a r s e f p q = p ∙ sym q
+pub one-take : (κs : _) (a : _) (r s : _) (e f : _) → take.Post κs a r e → take.Post κs a s f → r ≡ s
+one-take κs a r s e f p q = p ∙ sym q

@@ -1,13 +1,14 @@
-// Words sent and taken: the next word, and a word taken while another is sent.
+// Words told and taken: the word that the card will send, told before the controller's word starts, and the word received.
 ghost use mathlib.Core.Path.{_≡_};
 ghost use Prim.Native.Nat.{_+_, _<_, _≤_};
 ghost use lib.ListN.{length, set};
+ghost use Rattle.judge.specs.Judge.{wordPlace};
+ghost use Rattle.rules.specs.Rules.{read};
 ghost use Rattle.token.specs.Response.{responseToken};
 ghost use Rattle.card.specs.State.{withMessage};
-ghost use Rattle.card.specs.Exchange.{told, exchanged, responseOf, readWord, readbackWord, payloadWord, nextWord, checkAfter, taken};
-ghost use Rattle.exchange.specs.Payload.{payloadAsked, payloadOf};
+ghost use Rattle.card.specs.Exchange.{responseOf, readWord, readbackWord, passedWord, payloadWord, nextWord, checkAfter, taken, told, took};
 use card::Card;
-use card::Exchanged;
+use card::CardAfter;
 use card::Told;
 use card::token_of;
 use card::word_refusal;
@@ -69,70 +70,43 @@ fn readback_word(last: CommandToken, k: usize) -> u16
     0
 }
 
-// What the card sends behind the response token: the words of a READ with these fields, those of READBACK, or 0x0000.
-enum Payload {
-    Read(Command),
-    Readback,
-    Zeros,
-}
-
-// What a command sends.
-fn payload_asked(fields: Command) -> Payload
-    ensures { λ r. ⌜ r ≡ payloadAsked fields ⌝ }
+// Word k behind a token that passes steps 1 to 3.
+fn passed_word(card: Card, memory: &[u16], fields: Command, k: usize) -> u16
+    requires { ⌜ (fields .code ≡ read .code → wordPlace (card .bases .«read_base») (fields .«sub_address») + fields .length ≤ length (now memory)) ⌝ }
+    ensures { λ r. ⌜ r ≡ passedWord card (now (memory .entry)) fields k ⌝ }
 {
     if rules::is_command(fields.code, Name::Read) {
-        return Payload::Read(fields);
+        let from = judge::word_place(card.bases.read_base, fields.sub_address);
+        let check = card.port.message.check;
+        return read_word(memory, from, fields.length as usize, check, k);
     }
     if rules::is_command(fields.code, Name::Readback) {
-        return Payload::Readback;
+        return readback_word(card.port.last, k);
     }
-    Payload::Zeros
+    0
 }
 
-// What the open message's token sends, once two words came and where it passes steps 1 to 3. A word judges it here alone,
-// and not at all where its command sends nothing.
-fn payload_of(card: Card) -> Payload
-    ensures { λ r. ⌜ r ≡ payloadOf card ⌝ }
-{
-    if card.port.message.count < 2 {
-        return Payload::Zeros;
-    }
-    let token = token_of(card);
-    let asked = payload_asked(token.fields());
-    if let Payload::Zeros = asked {
-        return Payload::Zeros;
-    }
-    if any_set(judge::token_status(card.size, card.bases, token)) {
-        return Payload::Zeros;
-    }
-    asked
-}
-
-// Word k behind the token.
-fn payload_word(card: Card, payload: Payload, memory: &[u16], k: usize) -> u16
-    requires { ⌜ (payload ≡ payloadOf card) × (2 ≤ card .port .message .count) × (length (now memory) ≡ card .size) ⌝ }
+// Word k behind the token, which is judged here alone, and not at all where its command sends nothing.
+fn payload_word(card: Card, memory: &[u16], k: usize) -> u16
+    requires { ⌜ length (now memory) ≡ card .size ⌝ }
     ensures { λ r. ⌜ r ≡ payloadWord card (now (memory .entry)) k ⌝ }
 {
-    match payload {
-        Payload::Read(fields) => {
-            let from = judge::word_place(card.bases.read_base, fields.sub_address);
-            read_word(
-                memory,
-                from,
-                fields.length as usize,
-                card.port.message.check,
-                k,
-            )
-        }
-        Payload::Readback => readback_word(card.port.last, k),
-        Payload::Zeros => 0,
+    let token = token_of(card);
+    let fields = token.fields();
+    if !rules::is_command(fields.code, Name::Read)
+        & !rules::is_command(fields.code, Name::Readback)
+    {
+        return 0;
     }
+    if any_set(judge::token_status(card.size, card.bases, token)) {
+        return 0;
+    }
+    passed_word(card, memory, fields, k)
 }
 
-// ---- what is sent
-
-fn word_sent(card: Card, payload: Payload, memory: &[u16]) -> u16
-    requires { ⌜ (payload ≡ payloadOf card) × (length (now memory) ≡ card .size) × (card .«module_state» ≤ 15) ⌝ }
+// The word that the card will send, from card and memory alone.
+fn next_word(card: Card, memory: &[u16]) -> u16
+    requires { ⌜ (length (now memory) ≡ card .size) × (card .«module_state» ≤ 15) ⌝ }
     ensures { λ r. ⌜ r ≡ nextWord card (now (memory .entry)) ⌝ }
 {
     let count = card.port.message.count;
@@ -142,24 +116,24 @@ fn word_sent(card: Card, payload: Payload, memory: &[u16]) -> u16
     if count == 1 {
         return response_token(card).second;
     }
-    payload_word(card, payload, memory, count - 2)
+    payload_word(card, memory, count - 2)
 }
 
 // ---- what taking a word does
 
-// The running check goes over READ's payload words alone.
-fn check_after(card: Card, payload: Payload, sent: u16) -> u16
-    requires { ⌜ payload ≡ payloadOf card ⌝ }
+// The running check goes over the words told behind the token. A word 0 leaves a check of 0 as it is, and need not be worked in:
+// commands that send nothing, and tokens that fail, send only such words.
+fn check_after(card: Card, sent: u16) -> u16
     ensures { λ r. ⌜ r ≡ checkAfter card sent ⌝ }
 {
     let check = card.port.message.check;
-    let Payload::Read(fields) = payload else {
+    if card.port.message.count < 2 {
         return check;
-    };
-    if card.port.message.count - 2 < fields.length as usize {
-        return crc::check_word(check, sent);
     }
-    check
+    if (sent == 0) & (check == 0) {
+        return 0;
+    }
+    crc::check_word(check, sent)
 }
 
 // A word goes into the room, which is lent so that it is not copied.
@@ -171,13 +145,14 @@ fn put(room: &mut [u16; 67], at: usize, word: u16)
 }
 
 // The card after a word taken while another was sent. Words beyond 67 are dropped.
-fn took(card: Card, payload: Payload, word: u16, sent: u16) -> Card
-    requires { ⌜ payload ≡ payloadOf card ⌝ }
+fn with_word(card: Card, word: u16, sent: u16) -> Card
     ensures { λ r. ⌜ r ≡ withMessage card (taken card word sent) ⌝ }
 {
     let mut next = card;
     let at = next.port.message.count;
-    next.port.message.check = check_after(card, payload, sent);
+    next.port.message.check = check_after(card, sent);
+    next.port.message.note.told = false;
+    next.port.message.note.word = 0;
     if at < 67 {
         put(&mut next.port.message.words, at, word);
         next.port.message.count = at + 1;
@@ -186,40 +161,52 @@ fn took(card: Card, payload: Payload, word: u16, sent: u16) -> Card
     next
 }
 
-// The word that the card will send, from card and memory alone. Changes nothing.
-pub fn next_word(card: Card, memory: &[u16]) -> Told
+// ---- the operations
+
+// Tells the word that the card will send, and changes nothing but the note of it.
+pub fn tell(card: Card, memory: &[u16]) -> Told
     ensures { λ r. ⌜ r ≡ told card (now (memory .entry)) ⌝ }
 {
     let number = word_refusal(card, memory.len());
     if number != refusal::NONE {
         return Told {
             refusal: number,
+            card,
             word: 0,
         };
     }
+    let word = next_word(card, memory);
+    let mut next = card;
+    next.port.message.note.told = true;
+    next.port.message.note.word = word;
     Told {
         refusal: refusal::NONE,
-        word: word_sent(card, payload_of(card), memory),
+        card: next,
+        word,
     }
 }
 
-// Takes one word, and sends the next word.
-pub fn word(card: Card, memory: &[u16], word: u16) -> Exchanged
-    ensures { λ r. ⌜ r ≡ exchanged card (now (memory .entry)) word ⌝ }
+// Takes the received word. What goes out with it is the word told, as noted, whatever memory holds by now; where none is told, it
+// is the next word.
+pub fn take(card: Card, memory: &[u16], word: u16) -> CardAfter
+    ensures { λ r. ⌜ r ≡ took card (now (memory .entry)) word ⌝ }
 {
     let number = word_refusal(card, memory.len());
     if number != refusal::NONE {
-        return Exchanged {
+        return CardAfter {
             refusal: number,
             card,
-            sent: 0,
         };
     }
-    let payload = payload_of(card);
-    let sent = word_sent(card, payload, memory);
-    Exchanged {
+    let note = card.port.message.note;
+    if note.told {
+        return CardAfter {
+            refusal: refusal::NONE,
+            card: with_word(card, word, note.word),
+        };
+    }
+    CardAfter {
         refusal: refusal::NONE,
-        card: took(card, payload, word, sent),
-        sent,
+        card: with_word(card, word, next_word(card, memory)),
     }
 }

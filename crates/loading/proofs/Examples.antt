@@ -19,7 +19,7 @@ use Rattle.token.specs.Marks.{withCheck, checkRight, goodMarks}
 use Rattle.token.specs.Response.{responseFirst, responseSecond, responseMarks, goodResponse, responseFields, responseRead, anySet}
 use Rattle.judge.specs.Judge.{firstFailing, step1, lengthFits, subFits, subStatus, step2, wordPlace, isEven, inside, blockStatus, step3, tokenStatus, step4, isChecked, checkStatus, step5, endStatus, judgement}
 use Rattle.card.specs.Card.{powered, selected, moduleRefusal, moduleSet, wordRefusal}
-use Rattle.card.specs.Exchange.{exchanged, readbackWord, passedWord, payloadWord, nextWord, told, sendsRead, checkAfter, taken}
+use Rattle.card.specs.Exchange.{exchanged, readbackWord, passedWord, payloadWord, nextWord, told, took, withTold, wordTold, checkAfter, taken}
 use Rattle.card.specs.Release.{basesAfter, timeAfter, silent, judged, acted, noted, ended, writes, stored, endedMemory, releaseRefusal, released, memoryAfter}
 use Rattle.card.specs.Run as run
 use Rattle.card.specs.State.{emptied, fresh, sized, outOfRange}
@@ -131,7 +131,7 @@ unfolding before new passages toldOf cards end long bits number stream shift ste
     withCheck checkRight goodMarks responseFirst responseSecond responseMarks goodResponse responseFields responseRead
     anySet firstFailing step1 lengthFits subFits subStatus step2 wordPlace isEven inside blockStatus step3 tokenStatus step4 isChecked checkStatus step5 endStatus judgement
     basesAfter timeAfter written silent judged acted noted ended writes stored endedMemory
-    selected wordRefusal exchanged releaseRefusal released memoryAfter readbackWord passedWord payloadWord nextWord told sendsRead checkAfter taken
+    selected wordRefusal exchanged releaseRefusal released memoryAfter readbackWord passedWord payloadWord nextWord told took withTold wordTold checkAfter taken
     powered moduleRefusal moduleSet emptied fresh sized outOfRange readRefusal tokenGood payloadGood fieldsRead answerRead
     isReading withCheckWord payload message blockFits buildRefusal bufferAfter
     commandAt isAsk isGive readGood passes isToken confirms turnAfter

@@ -2,25 +2,31 @@
 -- and the refusals that it gives word by word.
 -- Assumes nothing.
 use Prim.Native.Nat.{ℕ, zero, suc, _+_, _*_, _/_, _≤_, _<_}
-use native.Mathlib.Numerals.{add-one}
 use native.Mathlib.Omega.{arith}
 use mathlib.Core.Path.{_≡_, refl, sym, ap, ap₂, _∙_}
 use mathlib.Core.Bool.{Bool, false}
 use mathlib.Core.List.{List, [], _∷_, _++_, append-assoc, append-nil}
-use borrow.Author.Tests.{le-ltb, eq-eqb}
+use borrow.Author.Tests.{le-ltb, eq-eqb, ne-eqb}
 use lib.Dec.{lit≤}
 use lib.ListN.{length, getD, take, drop, length-append, length-take, length-drop, drop-of-length-le, take-append-drop}
-use lib.Seq.{drop-cons, drop-drop, take-append-add}
+use lib.Seq.{drop-drop, take-append-add}
 use Rattle.bits.specs.Bits.{bits, number, stream}
 use Rattle.bits.proofs.Digits.{length-bits}
 use Rattle.bits.specs.Lines as lines
 use Rattle.bits.specs.Lines.{words, wholeWords}
 use Rattle.card.specs.Card.{moduleSet, wordRefusal}
-use Rattle.card.specs.Exchange.{told, exchanged, nextWord, taken}
+use Rattle.card.specs.Exchange.{told, exchanged, withTold, nextWord, taken}
+use Rattle.card.specs.Release.{releaseRefusal, released, memoryAfter}
+use Rattle.card.specs.State.{noteOf}
 use Rattle.card.specs.declared.Card.{Card}
-use Rattle.card.proofs.Laws.{in-range, lent}
+use Rattle.card.specs.declared.CardAfter.{CardAfter}
+use Rattle.card.specs.declared.Told.{Told}
+use Rattle.card.proofs.Cases.{told-quiet, told-refusal, exchanged-quiet}
+use Rattle.card.proofs.Laws.{in-range, lent, released-lent}
 use Rattle.card.proofs.Ranges.{exchanged-ranged}
+use Rattle.card.proofs.Refusals.{released-number}
 use Rattle.card.proofs.Sound.{not-out}
+use Rattle.card.proofs.Telling.{release-ignores-note, memory-ignores-note}
 use Rattle.shifter.specs.Shifter.{cleared, current, step, leftOver}
 use Rattle.shifter.specs.declared.LeftOver.{LeftOver}
 use Rattle.shifter.specs.declared.Shifter.{Shifter}
@@ -29,7 +35,7 @@ use Rattle.card.specs.Whole.{after, answers, listed, listened, cardAfterLine, m
 use Rattle.card.proofs.Closed.{Closed, selected-idle, closed, through}
 use Rattle.card.proofs.Holding.{Idle, holding, word-quiet}
 use Rattle.pins.specs.AtPins.{Ran, behind, ran, releasedAfter, heardAtPins}
-use Rattle.pins.specs.Pins.{pinsOf, givesPins, shifterRefusal, behindShifter, selectedPins, modulePins, askedWord, handed, clocked, releasedPins, memoryAfterPins}
+use Rattle.pins.specs.Pins.{pinsOf, givesPins, shifterRefusal, behindShifter, selectedPins, modulePins, toldFirst, tookLast, clocked, releasedPins, memoryAfterPins}
 use Rattle.pins.specs.declared.Clocked.{Clocked}
 use Rattle.pins.specs.declared.Pins.{Pins}
 use Rattle.shifter.proofs.Midway.{midway, midway-count, next-bit, step-midway, step-sixteenth, current-later}
@@ -52,96 +58,130 @@ module-at-pins p h stf state = rw (unrefused p h)
 
 -- ---- the bits of one word
 
-module _ (c : Card) (memory : List ℕ) (quiet : wordRefusal c (length memory) ≡ 0) where
+module _ (c : Card) (memory : List ℕ) where
   -- the word that goes out
   abbrev out : ℕ
   out = nextWord c memory
 
+  -- the card while some bits of the word come in: the word that goes out is told with the first
+  half : List Bool → Card
+  half [] = c
+  half (x ∷ xs) = told c memory .card
+
   -- some bits of a word have come
-  abbrev mid : List Bool → Pins
-  mid xs = pinsOf c (midway out xs)
+  mid : List Bool → Pins
+  mid xs = pinsOf (half xs) (midway out xs)
 
-  asked-first : (xs : List Bool) → current (midway out xs) (askedWord (mid xs) memory) ≡ out
-  unfolding current askedWord midway told
-  asked-first [] = rw quiet
-  asked-first (x ∷ xs) = current-later out x xs _
+  module _ (quiet : wordRefusal c (length memory) ≡ 0) where
+    told-next : told c memory .word ≡ out
+    told-next = ap (λ (t : Told). t .word) (told-quiet c memory quiet)
 
-  module _ (xs : List Bool) (b : Bool) where
-    number-quiet : length xs < 16 → behindShifter (mid xs) 0 ≡ 0
-    unfolding behindShifter
-    number-quiet h = rw (unrefused (mid xs) (rw (midway-count out xs) (omega arith)))
+    half-quiet : (xs : List Bool) → wordRefusal (half xs) (length memory) ≡ 0
+    unfolding half
+    half-quiet [] = quiet
+    half-quiet (x ∷ xs) =
+        ap (λ (t : Told). wordRefusal (t .card) (length memory)) (told-quiet c memory quiet) ∙ told-refusal c memory (length memory) ∙ quiet
 
-    -- what a step of the shifter makes of the card
-    turned : Step → Clocked
-    turned t = record { refusal = 0; pins = pinsOf (handed c memory (t .answer)) (t .shifter); bit = t .answer .bit }
+    half-more : (xs : List Bool) (b : Bool) → half (xs ++ (b ∷ [])) ≡ told c memory .card
+    unfolding half
+    half-more [] b = refl
+    half-more (x ∷ xs) b = refl
 
-    clocked-turned : length xs < 16 → clocked (mid xs) memory b ≡ turned (step (midway out xs) (askedWord (mid xs) memory) b)
-    unfolding clocked turned
-    clocked-turned h = rw (quiet, number-quiet h)
+    first-card : (xs : List Bool) → toldFirst (mid xs) memory .card ≡ told c memory .card
+    unfolding toldFirst mid half midway
+    first-card [] = refl
+    first-card (x ∷ xs) = rw (ne-eqb (length (x ∷ xs)) 0 (omega arith))
 
-    clocked-within : length xs < 15 → clocked (mid xs) memory b ≡ record { refusal = 0; pins = mid (xs ++ (b ∷ [])); bit = getD (bits 16 out) (length xs) false }
-    unfolding turned handed
-    clocked-within h = clocked-turned (omega arith) ∙ ap turned (step-midway out xs _ (asked-first xs) b h)
+    first-word : (xs : List Bool) → current (midway out xs) (toldFirst (mid xs) memory .word) ≡ out
+    unfolding current toldFirst mid half midway
+    first-word [] = told-next
+    first-word (x ∷ xs) = current-later out x xs _
 
-    clocked-last : length xs ≡ 15
-        → clocked (mid xs) memory b
-        ≡ record { refusal = 0; pins = pinsOf (exchanged c memory (number (xs ++ (b ∷ []))) .card) cleared; bit = getD (bits 16 out) (length xs) false }
-    unfolding turned handed
-    clocked-last h = clocked-turned (omega arith) ∙ ap turned (step-sixteenth out xs _ (asked-first xs) b h)
+    module _ (xs : List Bool) (b : Bool) where
+      number-quiet : length xs < 16 → behindShifter (mid xs) 0 ≡ 0
+      unfolding behindShifter mid
+      number-quiet h = rw (unrefused (mid xs) (rw (midway-count out xs) (omega arith)))
 
-    -- the bits behind this one
-    then : List Bool → Clocked → Ran
-    then ys r = behind r (ran (r .pins) memory ys)
+      -- what a step of the shifter makes of the card
+      turned : Step → Clocked
+      turned t = record { refusal = 0; pins = pinsOf (tookLast (told c memory .card) memory (t .answer)) (t .shifter); bit = t .answer .bit }
 
-  -- bits that complete no word
-  part : (ys xs : List Bool) → length xs + length ys < 16
-      → ran (mid xs) memory ys ≡ record { pins = mid (xs ++ ys); sent = take (length ys) (drop (length xs) (bits 16 out)); refused = [] }
-  unfolding ran then listed
-  part [] xs h = ap (λ (l : List Bool). record { pins = mid l; sent = []; refused = [] }) (sym (append-nil xs))
-  part (b ∷ ys) xs h =
-      let all : length (xs ++ (b ∷ [])) + length ys < 16 = simp length-append (omega arith) in
-      ap (then xs b ys) (clocked-within xs b (omega arith))
-      ∙ ap (behind (record { refusal = 0; pins = mid (xs ++ (b ∷ [])); bit = getD (bits 16 out) (length xs) false })) (part ys (xs ++ (b ∷ [])) all)
-      ∙ ap₂ (λ (l : List Bool) (t : List Bool). record { pins = mid l; sent = take (suc (length ys)) t; refused = [] }) (append-assoc xs (b ∷ []) ys) (next-bit out xs b (omega arith))
+      clocked-turned : length xs < 16 → clocked (mid xs) memory b ≡ turned (step (midway out xs) (toldFirst (mid xs) memory .word) b)
+      unfolding clocked turned mid
+      clocked-turned h = rw (half-quiet xs, number-quiet h, first-card xs)
 
-  -- and sixteen bits: the word goes to the card, and the next word has gone out
-  whole : (ys xs : List Bool) → length xs + length ys ≡ 16 → length xs < 16
-      → ran (mid xs) memory ys ≡ record { pins = pinsOf (exchanged c memory (number (xs ++ ys)) .card) cleared; sent = drop (length xs) (bits 16 out); refused = [] }
-  unfolding ran then listed
-  whole [] xs all h = absurd (omega arith)
-  whole (b ∷ []) xs all h =
-      let none : drop (length (xs ++ (b ∷ []))) (bits 16 out) ≡ [] = drop-of-length-le (bits 16 out) {i = length (xs ++ (b ∷ []))} (simp length-append (omega (arith, length-bits 16 out))) in
-      ap (then xs b []) (clocked-last xs b (omega arith))
-      ∙ ap (λ (l : List Bool). record { pins = pinsOf (exchanged c memory (number (xs ++ (b ∷ []))) .card) cleared; sent = l; refused = [] })
-      (ap (λ (l : List Bool). getD (bits 16 out) (length xs) false ∷ l) (sym none) ∙ next-bit out xs b h)
-  whole (b ∷ y ∷ ys) xs all h =
-      let rest : length (xs ++ (b ∷ [])) + length (y ∷ ys) ≡ 16 = simp length-append (omega arith) in
-      ap (then xs b (y ∷ ys)) (clocked-within xs b (omega arith))
-      ∙ ap (behind (record { refusal = 0; pins = mid (xs ++ (b ∷ [])); bit = getD (bits 16 out) (length xs) false }))
-      (whole (y ∷ ys) (xs ++ (b ∷ [])) rest (simp length-append (omega arith)))
-      ∙ ap₂ (λ (l : List Bool) (t : List Bool). record { pins = pinsOf (exchanged c memory (number l) .card) cleared; sent = t; refused = [] })
-      (append-assoc xs (b ∷ []) (y ∷ ys)) (next-bit out xs b h)
+      clocked-within : length xs < 15 → clocked (mid xs) memory b ≡ record { refusal = 0; pins = mid (xs ++ (b ∷ [])); bit = getD (bits 16 out) (length xs) false }
+      unfolding turned tookLast mid
+      clocked-within h = rw (half-more xs b) (clocked-turned (omega arith) ∙ ap turned (step-midway out xs _ (first-word xs) b h))
 
-  -- so with one memory from a word's first bit to its last, whatever it is before and behind them, sixteen bits exchange a word
-  pub word-at-pins : (line : List Bool) → length line ≡ 16
-      → ran (pinsOf c cleared) memory line ≡ record { pins = pinsOf (exchanged c memory (number line) .card) cleared; sent = bits 16 (nextWord c memory); refused = [] }
-  unfolding midway
-  word-at-pins line h = whole line [] (omega (arith, h)) (omega arith)
+      clocked-last : length xs ≡ 15
+          → clocked (mid xs) memory b
+          ≡ record { refusal = 0; pins = pinsOf (exchanged c memory (number (xs ++ (b ∷ []))) .card) cleared; bit = getD (bits 16 out) (length xs) false }
+      unfolding turned tookLast exchanged
+      clocked-last h = clocked-turned (omega arith) ∙ ap turned (step-sixteenth out xs _ (first-word xs) b h)
 
-  -- the card stays one that takes words
-  stays-quiet : (word : ℕ) → wordRefusal (exchanged c memory word .card) (length memory) ≡ 0
-  unfolding wordRefusal exchanged taken
-  stays-quiet word =
-      let l = lent c (length memory) quiet in
-      rw (not-out (exchanged c memory word .card) (exchanged-ranged c memory word (in-range c (l .ranged)))) (rw (quiet, eq-eqb _ _ (l .same), l .opened))
+      -- the bits behind this one
+      then : List Bool → Clocked → Ran
+      then ys r = behind r (ran (r .pins) memory ys)
 
-  sent-next : (word : ℕ) → exchanged c memory word .sent ≡ out
-  unfolding exchanged
-  sent-next word = rw quiet
+    -- bits that complete no word
+    part : (ys xs : List Bool) → length xs + length ys < 16
+        → ran (mid xs) memory ys ≡ record { pins = mid (xs ++ ys); sent = take (length ys) (drop (length xs) (bits 16 out)); refused = [] }
+    unfolding ran then listed
+    part [] xs h = ap (λ (l : List Bool). record { pins = mid l; sent = []; refused = [] }) (sym (append-nil xs))
+    part (b ∷ ys) xs h =
+        let all : length (xs ++ (b ∷ [])) + length ys < 16 = simp length-append (omega arith) in
+        ap (then xs b ys) (clocked-within xs b (omega arith))
+        ∙ ap (behind (record { refusal = 0; pins = mid (xs ++ (b ∷ [])); bit = getD (bits 16 out) (length xs) false })) (part ys (xs ++ (b ∷ [])) all)
+        ∙ ap₂ (λ (l : List Bool) (t : List Bool). record { pins = mid l; sent = take (suc (length ys)) t; refused = [] }) (append-assoc xs (b ∷ []) ys) (next-bit out xs b (omega arith))
 
-  told-next : told c memory .word ≡ out
-  unfolding told
-  told-next = rw quiet
+    -- and sixteen bits: the word goes to the card, and the next word has gone out
+    whole : (ys xs : List Bool) → length xs + length ys ≡ 16 → length xs < 16
+        → ran (mid xs) memory ys ≡ record { pins = pinsOf (exchanged c memory (number (xs ++ ys)) .card) cleared; sent = drop (length xs) (bits 16 out); refused = [] }
+    unfolding ran then listed
+    whole [] xs all h = absurd (omega arith)
+    whole (b ∷ []) xs all h =
+        let none : drop (length (xs ++ (b ∷ []))) (bits 16 out) ≡ [] = drop-of-length-le (bits 16 out) {i = length (xs ++ (b ∷ []))} (simp length-append (omega (arith, length-bits 16 out))) in
+        ap (then xs b []) (clocked-last xs b (omega arith))
+        ∙ ap (λ (l : List Bool). record { pins = pinsOf (exchanged c memory (number (xs ++ (b ∷ []))) .card) cleared; sent = l; refused = [] })
+        (ap (λ (l : List Bool). getD (bits 16 out) (length xs) false ∷ l) (sym none) ∙ next-bit out xs b h)
+    whole (b ∷ y ∷ ys) xs all h =
+        let rest : length (xs ++ (b ∷ [])) + length (y ∷ ys) ≡ 16 = simp length-append (omega arith) in
+        ap (then xs b (y ∷ ys)) (clocked-within xs b (omega arith))
+        ∙ ap (behind (record { refusal = 0; pins = mid (xs ++ (b ∷ [])); bit = getD (bits 16 out) (length xs) false }))
+        (whole (y ∷ ys) (xs ++ (b ∷ [])) rest (simp length-append (omega arith)))
+        ∙ ap₂ (λ (l : List Bool) (t : List Bool). record { pins = pinsOf (exchanged c memory (number l) .card) cleared; sent = t; refused = [] })
+        (append-assoc xs (b ∷ []) (y ∷ ys)) (next-bit out xs b h)
+
+    -- so with one memory from a word's first bit to its last, whatever it is before and behind them, sixteen bits exchange a word
+    pub word-at-pins : (line : List Bool) → length line ≡ 16
+        → ran (pinsOf c cleared) memory line ≡ record { pins = pinsOf (exchanged c memory (number line) .card) cleared; sent = bits 16 (nextWord c memory); refused = [] }
+    unfolding mid half midway
+    word-at-pins line h = whole line [] (omega (arith, h)) (omega arith)
+
+    -- the card stays one that takes words
+    stays-quiet : (word : ℕ) → wordRefusal (exchanged c memory word .card) (length memory) ≡ 0
+    unfolding wordRefusal taken
+    stays-quiet word =
+        let l = lent c (length memory) quiet in
+        rw (not-out (exchanged c memory word .card) (exchanged-ranged c memory word (in-range c (l .ranged)))) (rw (exchanged-quiet c memory word quiet) (rw (eq-eqb _ _ (l .same), l .opened)))
+
+    -- release does not look at the word told
+    half-released : (xs : List Bool) (left : ℕ) → releaseRefusal c (length memory) left ≡ 0 → released (half xs) (length memory) left ≡ released c (length memory) left
+    unfolding half withTold
+    half-released [] left h = refl
+    half-released (x ∷ xs) left h =
+        ap (λ (t : Told). released (t .card) (length memory) left) (told-quiet c memory quiet) ∙ release-ignores-note c (noteOf out) (length memory) left h
+
+    half-memory : (xs : List Bool) (left : ℕ) → memoryAfter (half xs) memory left ≡ memoryAfter c memory left
+    unfolding half withTold
+    half-memory [] left = refl
+    half-memory (x ∷ xs) left =
+        ap (λ (t : Told). memoryAfter (t .card) memory left) (told-quiet c memory quiet) ∙ memory-ignores-note c (noteOf out) memory left
+
+    sent-next : (word : ℕ) → exchanged c memory word .sent ≡ out
+    unfolding exchanged
+    sent-next word = told-next
 
 -- ---- a line
 
@@ -162,17 +202,17 @@ ran-on p memory (b ∷ xs) ys =
 -- the card after n words, the bits of the next one, and what was sent
 lineRan : Card → List ℕ → ℕ → List Bool → Ran
 lineRan c memory n line = record {
-  pins = pinsOf (after c memory (words n line)) (midway (nextWord (after c memory (words n line)) memory) (drop (n * 16) line));
+  pins = mid (after c memory (words n line)) memory (drop (n * 16) line);
   sent = take (length line) (stream 16 (answers c memory (words n line) ++ (told (after c memory (words n line)) memory .word ∷ [])));
   refused = [];
 }
 
 line-at-pins : (n : ℕ) (c : Card) (memory : List ℕ) → wordRefusal c (length memory) ≡ 0 → (line : List Bool) → length line / 16 ≡ n
     → ran (pinsOf c cleared) memory line ≡ lineRan c memory n line
-unfolding lineRan joined words after answers stream midway
+unfolding lineRan joined words after answers stream midway mid half
 line-at-pins zero c memory quiet line h =
     part c memory quiet line [] (omega arith)
-    ∙ ap (λ (l : List Bool). record { pins = mid c memory quiet line; sent = take (length line) l; refused = [] })
+    ∙ ap (λ (l : List Bool). record { pins = mid c memory line; sent = take (length line) l; refused = [] })
     (sym (append-nil (bits 16 (nextWord c memory))) ∙ ap (λ (w : ℕ). bits 16 w ++ []) (sym (told-next c memory quiet)))
 line-at-pins (suc n) c memory quiet line h =
     let front : List Bool = take 16 line in
@@ -187,7 +227,7 @@ line-at-pins (suc n) c memory quiet line h =
     ∙ ran-on (pinsOf c cleared) memory front rest
     ∙ ap (λ (r : Ran). joined r (ran (r .pins) memory rest)) (word-at-pins c memory quiet front sixteen)
     ∙ ap (joined (record { pins = pinsOf c′ cleared; sent = bits 16 (nextWord c memory); refused = [] })) (line-at-pins n c′ memory (stays-quiet c memory quiet (number front)) rest fewer)
-    ∙ ap₂ (λ (l : List Bool) (t : List Bool). record { pins = pinsOf (after c′ memory (words n rest)) (midway (nextWord (after c′ memory (words n rest)) memory) l); sent = t; refused = [] })
+    ∙ ap₂ (λ (l : List Bool) (t : List Bool). record { pins = mid (after c′ memory (words n rest)) memory l; sent = t; refused = [] })
     (drop-drop (n * 16) 16 line ∙ ap (λ (k : ℕ). drop k line) place)
     (sym (take-append-add (bits 16 (nextWord c memory)) tail (length rest))
     ∙ ap₂ (λ (k w : ℕ). take k (bits 16 w ++ tail)) (sym long) (sym (sent-next c memory quiet (number front))))
@@ -211,7 +251,7 @@ module _ (c : Card) (memory : List ℕ) (idle : Idle c memory) (s : Shifter) (in
   all-ran = line-at-pins (length line / 16) opened memory (word-quiet c memory idle [] 0 (lit≤ tt)) line refl
 
   left : end .pins .shifter .count ≡ lines.bitsLeft line
-  unfolding lineRan lines.bitsLeft
+  unfolding lineRan mid lines.bitsLeft
   left = midway-count _ (drop (length line / 16 * 16) line) ∙ length-drop (length line / 16 * 16) line ∙ omega arith
 
   small : end .pins .shifter .count ≤ 15
@@ -224,7 +264,23 @@ module _ (c : Card) (memory : List ℕ) (idle : Idle c memory) (s : Shifter) (in
   message-closed : Closed c memory (wholeWords line) (lines.bitsLeft line)
   message-closed = closed c memory idle (wholeWords line) (lines.bitsLeft line) (unfold lines.bitsLeft in omega arith)
 
+  -- the card after the words, which takes the release
+  heard-words : Card
+  heard-words = after opened memory (wholeWords line)
+
+  release-quiet : releaseRefusal heard-words (length memory) (lines.bitsLeft line) ≡ 0
+  unfolding heard-words
+  release-quiet =
+      sym (released-number heard-words (length memory) (lines.bitsLeft line))
+      ∙ ap (λ (a : CardAfter). a .refusal) (rw (selected-idle c memory idle) at (message-closed .card-is))
+
+  word-quiet-after : wordRefusal heard-words (length memory) ≡ 0
+  word-quiet-after = released-lent heard-words (length memory) (lines.bitsLeft line) release-quiet
+
+  rest : List Bool
+  rest = drop (length line / 16 * 16) line
+
   -- at the pins a card hears a line as it hears it word by word
   pub at-pins : through (λ (p : Pins). p .card) (heardAtPins (pinsOf c s) memory line) ≡ heard c memory line
-  unfolding through lineRan heardAtPins releasedAfter heard cardAfterLine memoryAfterLine sentBits refusalsOf listened wholeWords releasedPins memoryAfterPins listed
-  at-pins = rw (select-pins, all-ran, unrefused (end .pins) small, left-is, message-closed .select-quiet, message-closed .words-quiet, cardAfterLine, sentBits, listened, selected-idle c memory idle)
+  unfolding through lineRan mid heardAtPins releasedAfter heard cardAfterLine memoryAfterLine sentBits refusalsOf listened wholeWords releasedPins memoryAfterPins listed heard-words rest
+  at-pins = rw (select-pins, all-ran, unrefused (end .pins) small, left-is, half-released heard-words memory word-quiet-after rest (lines.bitsLeft line) release-quiet, half-memory heard-words memory word-quiet-after rest (lines.bitsLeft line), message-closed .select-quiet, message-closed .words-quiet, cardAfterLine, sentBits, listened, selected-idle c memory idle)

@@ -6,10 +6,11 @@ use lib.Dec.{eqb}
 use lib.ListN.{length}
 use Rattle.rules.specs.Refusals as refusal
 use Rattle.card.specs.Card.{powered, selected, moduleSet, wordRefusal}
-use Rattle.card.specs.Exchange.{told, exchanged}
+use Rattle.card.specs.Exchange.{told, took}
 use Rattle.card.specs.Release.{released, memoryAfter}
 use Rattle.card.specs.declared.Card.{Card}
 use Rattle.card.specs.declared.CardAfter.{CardAfter}
+use Rattle.card.specs.declared.Told.{Told}
 use Rattle.shifter.specs.Shifter.{cleared, step, leftOver}
 use Rattle.shifter.specs.declared.Sent.{Sent}
 use Rattle.shifter.specs.declared.Shifter.{Shifter}
@@ -49,22 +50,22 @@ selectedPins p =
 unfoldable pub modulePins : Pins → Bool → ℕ → PinsAfter
 modulePins p stf state = answered p (moduleSet (p .card) stf state)
 
--- the card's next word is needed before the word's first bit, and then no more
-unfoldable pub askedWord : Pins → List ℕ → ℕ
-askedWord p memory = cond (eqb (p .shifter .count) 0) (told (p .card) memory .word) 0
+-- a word is told with its first bit, and then no more
+unfoldable pub toldFirst : Pins → List ℕ → Told
+toldFirst p memory = cond (eqb (p .shifter .count) 0) (told (p .card) memory) (record { refusal = refusal.None; card = p .card; word = 0 })
 
--- a bit that completes a word hands it to the card
-unfoldable pub handed : Card → List ℕ → Sent → Card
-handed c memory sent = cond (sent .complete) (exchanged c memory (sent .word) .card) c
+-- and taken with its sixteenth, which completes it
+unfoldable pub tookLast : Card → List ℕ → Sent → Card
+tookLast c memory sent = cond (sent .complete) (took c memory (sent .word) .card) c
 
--- one bit in, one bit out, refused as a word is: State, Size, Closed. The memory lent with a word's sixteen bits is the same: document 01 has the
--- device write none meanwhile.
+-- one bit in, one bit out, refused as a word is: State, Size, Closed
 unfoldable pub clocked : Pins → List ℕ → Bool → Clocked
 clocked p memory bit =
     let number = behindShifter p (wordRefusal (p .card) (length memory)) in
-    let done = step (p .shifter) (askedWord p memory) bit in
+    let t = toldFirst p memory in
+    let done = step (p .shifter) (t .word) bit in
     cond (eqb number refusal.None)
-    (record { refusal = refusal.None; pins = pinsOf (handed (p .card) memory (done .answer)) (done .shifter); bit = done .answer .bit })
+    (record { refusal = refusal.None; pins = pinsOf (tookLast (t .card) memory (done .answer)) (done .shifter); bit = done .answer .bit })
     (record { refusal = number; pins = p; bit = false })
 
 -- release takes the shifter's count as left-over bits: State, Size, Closed

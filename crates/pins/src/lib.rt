@@ -2,8 +2,9 @@
 // go in by value and come back.
 ghost use mathlib.Core.Path.{_≡_};
 ghost use lib.ListN.{length};
-ghost use Rattle.pins.specs.Pins.{shifterRefusal, behindShifter, poweredPins, selectedPins, modulePins, askedWord, handed, clocked, releasedPins, memoryAfterPins};
+ghost use Rattle.pins.specs.Pins.{shifterRefusal, behindShifter, poweredPins, selectedPins, modulePins, toldFirst, tookLast, clocked, releasedPins, memoryAfterPins};
 use card::Card;
+use card::Told;
 use rules::refusal;
 use shifter::Sent;
 use shifter::Shifter;
@@ -98,24 +99,28 @@ pub fn set_module(pins: Pins, stf: bool, state: u8) -> PinsAfter
     }
 }
 
-// The card's next word, asked for with the word's first bit alone: finding it costs as much as a whole word.
-fn asked_word(pins: Pins, memory: &[u16]) -> u16
-    ensures { λ r. ⌜ r ≡ askedWord pins (now (memory .entry)) ⌝ }
+// A word is told with its first bit alone: finding it costs as much as a whole word.
+fn tell_first(pins: Pins, memory: &[u16]) -> Told
+    ensures { λ r. ⌜ r ≡ toldFirst pins (now (memory .entry)) ⌝ }
 {
     if pins.shifter.count == 0 {
-        let told = exchange::next_word(pins.card, memory);
-        return told.word;
+        return exchange::tell(pins.card, memory);
     }
-    0
+    let card = pins.card;
+    Told {
+        refusal: refusal::NONE,
+        card,
+        word: 0,
+    }
 }
 
-// A bit that completes a word hands it to the card.
-fn hand(card: Card, memory: &[u16], sent: Sent) -> Card
-    ensures { λ r. ⌜ r ≡ handed card (now (memory .entry)) sent ⌝ }
+// And taken with the bit that completes it.
+fn take_last(card: Card, memory: &[u16], sent: Sent) -> Card
+    ensures { λ r. ⌜ r ≡ tookLast card (now (memory .entry)) sent ⌝ }
 {
     if sent.complete {
-        let exchanged = exchange::word(card, memory, sent.word);
-        return exchanged.card;
+        let taken = exchange::take(card, memory, sent.word);
+        return taken.card;
     }
     card
 }
@@ -132,9 +137,10 @@ pub fn clock(pins: Pins, memory: &[u16], bit: bool) -> Clocked
             bit: false,
         };
     }
-    let step = shifter::shift_copy(pins.shifter, asked_word(pins, memory), bit);
+    let told = tell_first(pins, memory);
+    let step = shifter::shift_copy(pins.shifter, told.word, bit);
     let sent = step.answer;
-    let card = hand(pins.card, memory, sent);
+    let card = take_last(told.card, memory, sent);
     let shifter = step.shifter;
     Clocked {
         refusal: refusal::NONE,

@@ -11,7 +11,7 @@ ghost use mathlib.Core.Path.{_≡_};
 ghost use lib.ListN.{length};
 use card::Card;
 use card::CardAfter;
-use card::Exchanged;
+use card::Told;
 use controller::Reading;
 use controller::Started;
 use controller::SureWrite;
@@ -230,52 +230,59 @@ fn power_up(record: Record) {
     say(after.size);
 }
 
-// A card as at power-up, but for its size p, its count q, its module state x, and an open message where r is 1.
+// A card as at power-up, but for its size p, its count q and its module state x. Bit 0 of r: a message is open; bit 1: the word
+// 0x5A5A is told; bit 2: it stands in the note, though none is told.
 fn card_of(record: Record) -> Card {
     let powered = card::power_up(256);
     let count = record.q as usize;
-    let opened = record.r == 1;
+    let opened = record.r % 2 == 1;
+    let told = record.r / 2 % 2 == 1;
+    let noted = 2 <= record.r;
     let mut card = powered.card;
     card.size = record.p as usize;
     card.module_state = record.x;
     card.port.message.count = count;
     card.port.message.opened = opened;
+    card.port.message.note.told = told;
+    if noted {
+        card.port.message.note.word = 0x5A5A;
+    }
     card
 }
 
-// A call that sends no word.
-fn silent(after: CardAfter) -> Exchanged {
-    let card = after.card;
-    Exchanged {
-        refusal: after.refusal,
-        card,
-        sent: 0,
-    }
+fn say_note(card: Card) {
+    let port = card.port;
+    let message = port.message;
+    let note = message.note;
+    say_bit(note.told);
+    say(note.word as usize);
 }
 
-fn next_word(card: Card, memory: &[u16]) -> Exchanged {
-    let told = exchange::next_word(card, memory);
-    Exchanged {
-        refusal: told.refusal,
+// A call that tells no word.
+fn silent(after: CardAfter) -> Told {
+    let card = after.card;
+    Told {
+        refusal: after.refusal,
         card,
-        sent: told.word,
+        word: 0,
     }
 }
 
 // Call s, with memory of t words or module state t, and u left-over bits.
-fn call_card(record: Record, memory: &mut [u16]) -> Exchanged {
+fn call_card(record: Record, memory: &mut [u16]) -> Told {
     let card = card_of(record);
     let which = record.s;
     match which {
         1 => silent(card::select(card)),
         2 => silent(card::set_module(card, true, byte_of(record.t))),
-        3 => next_word(card, memory),
-        4 => exchange::word(card, memory, 0x1234),
+        3 => exchange::tell(card, memory),
+        4 => silent(exchange::take(card, memory, 0x1234)),
         _ => silent(release::release(card, memory, byte_of(record.u))),
     }
 }
 
-// 8: the line has the card's message, count and module state after the call, and the word sent.
+// 8: the line has the card's message, count and module state after the call, the word told, the note, and the
+// running check.
 fn on_card(record: Record) {
     let mut memory = [7u16; 300];
     let size = at_most(record.t, 300);
@@ -288,7 +295,9 @@ fn on_card(record: Record) {
     say_bit(message.opened);
     say(message.count);
     say(after.module_state as usize);
-    say(answer.sent as usize);
+    say(answer.word as usize);
+    say_note(after);
+    say(message.check as usize);
 }
 
 // ---- the bit shifter
@@ -355,7 +364,7 @@ fn call_pins(record: Record, memory: &mut [u16]) -> PinsAfter {
     }
 }
 
-// 10: the line has the card's message and the shifter's count after the call.
+// 10: the line has the card's message, the shifter's count and the note after the call.
 fn on_pins(record: Record) {
     let mut memory = [7u16; 300];
     let size = at_most(record.t, 300);
@@ -369,6 +378,7 @@ fn on_pins(record: Record) {
     say(answer.refusal as usize);
     say_bit(message.opened);
     say(shifter.count as usize);
+    say_note(card);
 }
 
 // ---- the loader

@@ -50,8 +50,16 @@ fn on_select(card: Card) -> Replayed
 fn on_word(card: Card, memory: &[u16], word: u16) -> Replayed
     ensures { λ r. ⌜ replayedGives r ≡ onWord card (now (memory .entry)) word ⌝ }
 {
-    let answer = exchange::word(card, memory, word);
-    said(answer.refusal, answer.card, Line::Taken(word, answer.sent))
+    let told = exchange::tell(card, memory);
+    // Take would refuse it too. Where this is tested, the compiler sees below that a word is told.
+    if told.refusal != refusal::NONE {
+        return Replayed {
+            card,
+            line: Line::Refused(told.refusal),
+        };
+    }
+    let answer = exchange::take(told.card, memory, word);
+    said(answer.refusal, answer.card, Line::Taken(word, told.word))
 }
 
 fn on_release(card: Card, memory: &mut [u16], left: u8) -> Replayed

@@ -16,7 +16,7 @@ State = 2
 abbrev pub Open : ℕ
 Open = 3
 
--- word or release with none open; so too next word, and a bit at the pins
+-- word or release with none open: so tell and take, and a bit at the pins
 abbrev pub Closed : ℕ
 Closed = 4
 

@@ -1,55 +1,36 @@
--- `exchange::check_after` meets its contract: the payload's case says whether the word is one of READ's.
+-- `exchange::check_after` meets its contract: the tests say which case holds, and zeros leave a check of 0.
 -- Assumes nothing.
-use Prim.Native.Nat.{_-_}
-use mathlib.Core.Path.{_≡_, sym, ap, _∙_}
-use native.Mathlib.Omega.{arith}
-use borrow.Author.Needs.{needs}
+use mathlib.Core.Path.{_≡_, refl, sym}
+use borrow.Author.Tests.{eqb-true, le-leb}
+use lib.Dec.{eqb}
+use mathlib.Core.List.{[], _∷_}
+use Rattle.bits.specs.Bits.{bits, number, stream}
+use Rattle.crc.specs.Crc.{crc, crc16After, feed, shift, step, taps16}
 use Rattle.rules.proofs.Tests.{tests}
-use Rattle.card.specs.Exchange.{sendsRead, checkAfter}
-use Rattle.exchange.specs.declared.Payload.{Payload}
-use Rattle.exchange.proofs.Payloads.{isRead, other-than-read, sends-read, read-sent}
+use Rattle.token.proofs.Good.{both}
+use Rattle.card.specs.Exchange.{checkAfter}
 use Rattle.exchange.proofs.check_after.Statement.{statement}
 use Rattle.exchange.proofs.check_after.Tie as tie
 
--- whether the word is one of READ's, by the payload's case
-known : (s : tie.Start) {p : Payload} → s .args .payload ≡ p → sendsRead (s .args .card) ≡ isRead p (s .args .card .port .message .count - 2)
-known s e =
-    let count = s .args .card .port .message .count in
-    sends-read (s .args .card) ∙ ap (λ (p : Payload). isRead p (count - 2)) (sym (s .pre) ∙ e)
+zeros : crc16After 0 (0 ∷ []) ≡ 0
+unfolding crc16After crc number feed stream bits step taps16 shift
+zeros = refl
 
 returns : tie.Need-returns
 unfolding checkAfter
-returns c =
-    let s = c .before in
-    let k = s .args .card .port .message .count - 2 in
-    rw (sends-read (s .args .card), ← s .pre, other-than-read (s .args .payload) k (c .match .keys2))
-
-sub-if1 : tie.Need-sub-if1
-sub-if1 c =
-    let s = c .before .before .before .before in
-    let read = c .before .before .payload .given in
-    omega (arith, read-sent (s .args .card) (read .0 .0) (sym (s .pre) ∙ read .1) .0)
+returns c = search tests
 
 returns-2 : tie.Need-returns-2
 unfolding checkAfter
 returns-2 c =
-    let s = c .before .before .before .before .before .before .before in
-    rw (known s (c .before .before .before .before .before .payload .given .1)) (search (tests, c .check-word .ensures))
+    let a = c .before .before .before .args in
+    let (sent, check) = both (eqb (a .sent) 0) _ (c .if2 .taken) in
+    let m = a .card .port .message in
+    rw (le-leb 2 (m .count) (c .before .if1 .left), eqb-true (a .sent) 0 sent, eqb-true (m .check) 0 check) (sym zeros)
 
 returns-3 : tie.Need-returns-3
 unfolding checkAfter
-returns-3 c =
-    let s = c .before .before .before .before .before .before in
-    rw (known s (c .before .before .before .before .payload .given .1)) (search tests)
+returns-3 c = search (tests, c .check-word .ensures)
 
 pub check-after-spec : {M : Type 1} → statement M
-check-after-spec =
-    tie.close
-    (tie.spec
-    (λ c. search needs)
-    returns
-    sub-if1
-    (λ c. search needs)
-    (λ c κs. tt)
-    returns-2
-    returns-3)
+check-after-spec = tie.close (tie.spec returns returns-2 (λ c κs. tt) returns-3)

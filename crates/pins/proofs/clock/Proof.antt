@@ -22,7 +22,7 @@ returns-2 c =
     let a = c .before .before .before .before .before .before .before .before .before .args in
     let number : eqb (behindShifter (a .pins) (wordRefusal (a .pins .card) (length (a .memory .now)))) refusal.None ≡ true
     = eq-eqb _ _ (sym (c .before .before .before .before .before .before .behind-shifter .ensures ∙ ap (behindShifter (a .pins)) (c .before .before .before .before .before .before .before .word-refusal .ensures)) ∙ c .before .before .before .before .before .if1 .left) in
-    rw number (simp (c .before .hand .ensures, c .before .before .before .shift-copy .ensures, c .before .before .before .before .asked-word .ensures))
+    rw number (simp (c .before .take-last .ensures, c .before .before .before .shift-copy .ensures, c .before .before .before .before .tell-first .ensures))
 
 pub clock-spec : {M : Type 1} → statement M
 clock-spec = tie.close (tie.spec (λ c κs. tt) (λ c κs. tt) returns (λ c κs. tt) (λ c κs. tt) (λ c κs. tt) returns-2)
