@@ -31,7 +31,7 @@ static struct {
     {"payload_check", "even", 1000, 0},   {"payload_check", "odd", 1000, 0},     {"payload_check", "empty", 16, 0},
     {"payload_check", "null", 1, 0},      {"payload_check", "unaligned", 300, 0}, {"payload_check", "zeros", 300, 0},
     {"payload_check", "ones", 300, 0},    {"payload_check", "checked", 100, 0},  {"payload_check", "long", 6, 0},
-    {"payload_check", "long_odd", 3, 0},
+    {"payload_check", "long_odd", 3, 0},  {"payload_check", "one_bit", 720, 0},
 };
 enum { KINDS = sizeof kinds / sizeof kinds[0] };
 

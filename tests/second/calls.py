@@ -142,6 +142,10 @@ def payloads(draw):
         yield "unaligned", draw.between(1, 15), drawn_bytes(draw, count)
         yield "zeros", 0, bytes(count)
         yield "ones", 0, b"\xFF" * count
+    # Each single bit of one to nine words: up to two fours of words, and up to three left over.
+    for count in range(2, 20, 2):
+        for place in range(8 * count):
+            yield "one_bit", 0, (1 << place).to_bytes(count, "big")
     for start in range(1, 64):
         yield "unaligned", start, drawn_bytes(draw, 126)
     for _ in range(100):

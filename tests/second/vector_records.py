@@ -18,10 +18,14 @@ RESPONSE_SPARE = (0x03F0, 0x3FF0)
 CHECK = (0x0000, 0x000F)
 
 
-def one_bit_payload(draw, length):
+def one_bit(length, place, word):
     words = [0] * length
-    words[draw.below(length)] = 1 << draw.below(16)
+    words[word] = 1 << place
     return words
+
+
+def one_bit_payload(draw, length):
+    return one_bit(length, draw.below(16), draw.below(length))
 
 
 def with_check_word(words):
@@ -32,8 +36,11 @@ def payloads(draw):
     for words, _ in known.CHECKS:
         yield words
         yield with_check_word(words)
-    # Each value of four bits at each of its places in a word.
+    # Small values at each place in a word.
     yield from ([value << place] for place in (0, 4, 8, 12) for value in range(16))
+    # Each single bit of one to nine words: up to two fours of words, and up to three left over.
+    for length in range(1, 10):
+        yield from (one_bit(length, place, word) for word in range(length) for place in range(16))
     for length in range(MOST_WORDS + 1):
         yield [0] * length
         yield [0xFFFF] * length

@@ -1,8 +1,9 @@
 pub mod Checks
 pub mod Detect
+pub mod Factors
+pub mod Fours
 pub mod Linear
 pub mod Maps
 pub mod Register
-pub mod Remainders
 pub mod Words
 pub mod Unique

@@ -2,21 +2,21 @@
 -- another way to compute it is right where one computed test of the single bits says so.
 -- Assumes nothing.
 use Prim.Native.Nat.{ℕ, zero, suc, _+_, _*_, _/_, _%_, _^_, _<_}
-use native.Mathlib.Nat.{add-zero, zero-mul, one-mul, mod-lt, mod-one, mod-eq-of-lt}
+use native.Mathlib.Nat.{add-zero, zero-mul, one-mul, mod-lt, mod-one, mod-eq-of-lt, div-eq-of-lt}
 use native.Mathlib.Numerals.{one-add}
 use native.Mathlib.Omega.{arith}
 use mathlib.Core.Path.{_≡_, refl, sym, ap, ap₂, _∙_}
 use mathlib.Core.Bool.{Bool, true, false}
 use mathlib.Core.List.{List, [], _∷_}
 use lib.Arith.{bin-ind}
-use lib.Bits.{bitXor, differ, xor-step, xor-comm, xor-self, xor-shr, xor-mod, xor-block, xor-shifted}
+use lib.Bits.{bitXor, differ, xor-step, xor-comm, xor-self, xor-zero-r, xor-shr, xor-mod, xor-block, xor-shifted}
 use lib.Dec.{eqb, lit<}
 use lib.ListN.{length}
 use lib.Pow.{pow-pos, mod-pow-add}
 use Rattle.bits.specs.Bits.{bits, number, digit}
 use Rattle.crc.specs.Crc.{feed, crc}
-use Rattle.bits.proofs.Digits.{length-bits, bits-xor, number-flips, digit-odd}
-use Rattle.crc.proofs.Register.{length-feed, feed-flips}
+use Rattle.bits.proofs.Digits.{length-bits, bits-split, bits-xor, number-flips, digit-odd}
+use Rattle.crc.proofs.Register.{length-feed, feed-flips, crc-append}
 
 -- ---- the order of a sum
 
@@ -45,7 +45,7 @@ xor-assoc =
     (ap (λ (d : ℕ). differ d (c % 2)) (xor-mod a b 1) ∙ odd-assoc a b c ∙ ap (differ (a % 2)) (sym (xor-mod b c 1)))
     ∙ sym (xor-step a (bitXor b c)))
 
-xor-swap : (a b c d : ℕ) → bitXor (bitXor a b) (bitXor c d) ≡ bitXor (bitXor a c) (bitXor b d)
+pub xor-swap : (a b c d : ℕ) → bitXor (bitXor a b) (bitXor c d) ≡ bitXor (bitXor a c) (bitXor b d)
 xor-swap a b c d =
     xor-assoc a b (bitXor c d)
     ∙ ap (bitXor a) (sym (xor-assoc b c d) ∙ ap (λ (m : ℕ). bitXor m d) (xor-comm b c) ∙ xor-assoc c b d)
@@ -93,6 +93,23 @@ module _ (taps : List Bool) (k : ℕ) where
 
   pub message : Linear of-message
   message = record { of-sum = crc-sum taps k 0 0 }
+
+  -- the check of k zeros, from a start value
+  abbrev pub of-start : ℕ → ℕ
+  of-start c = crc taps c (bits k 0)
+
+  pub start : Linear of-start
+  start = record { of-sum = λ c d. crc-sum taps k c d 0 0 }
+
+  -- a check is the sum of both
+  pub parted : (c n : ℕ) → crc taps c (bits k n) ≡ bitXor (of-start c) (of-message n)
+  parted c n = ap (λ (m : ℕ). crc taps m (bits k n)) (sym (xor-zero-r c)) ∙ crc-sum taps k c 0 0 n
+
+-- zeros in front change no check from 0
+pub leading : (taps : List Bool) (j k n : ℕ) → n < 2 ^ k → of-message taps (j + k) n ≡ of-message taps k n
+leading taps j k n h =
+    ap (crc taps 0) (bits-split j k n) ∙ crc-append taps 0 (bits j (n / 2 ^ k)) (bits k n)
+    ∙ ap (λ (c : ℕ). crc taps c (bits k n)) (ap (of-message taps j) (div-eq-of-lt h) ∙ message taps j .of-sum 0 0 ∙ xor-self (of-message taps j 0))
 
 -- ---- single bits
 

@@ -1,4 +1,4 @@
--- The map that the code computes of a token: it is linear, and gives the check that it is written for.
+-- Shifts and folds as linear maps, and the map that the code computes of a token: it gives the check that it is written for.
 -- Assumes nothing.
 use Prim.Native.Nat.{ℕ, _+_, _*_, _/_, _%_, _^_, _<_}
 use native.Mathlib.Omega.{arith}
@@ -10,14 +10,14 @@ use Rattle.bits.proofs.Digits.{bits-join}
 use Rattle.crc.proofs.Linear.{Linear, same, up, down, low, then, plus, message, of-message, singles, agree}
 
 -- shifted up, within 64 bits
-shl : (k : ℕ) → Linear (λ v. v * 2 ^ k % 2 ^ 64)
+pub shl : (k : ℕ) → Linear (λ v. v * 2 ^ k % 2 ^ 64)
 shl k = then (up k) (low 64)
 
 -- x^degree replaced by x^back + 1
 unfoldable pub folded : ℕ → ℕ → ℕ → ℕ
 folded degree back v = bitXor (bitXor v (v / 2 ^ degree * 2 ^ degree % 2 ^ 64)) (bitXor (v / 2 ^ degree) (v / 2 ^ degree * 2 ^ back % 2 ^ 64))
 
-fold : (degree back : ℕ) → Linear (folded degree back)
+pub fold : (degree back : ℕ) → Linear (folded degree back)
 unfolding folded
 fold degree back = plus (plus same (then (down degree) (shl degree))) (plus (down degree) (then (down degree) (shl back)))
 

@@ -1,17 +1,16 @@
 -- Laws of the check register, for every polynomial: it is linear, takes in whole runs of bits at once, and can be resumed.
 -- Assumes nothing.
-use Prim.Native.Nat.{ℕ, zero, suc, _+_, _*_, _/_, _%_, _^_, _≤_, _<_}
-use native.Mathlib.Nat.{add-comm, zero-div, zero-mod, add-zero, mod-eq-of-lt}
+use Prim.Native.Nat.{ℕ, zero, suc, _%_, _^_, _≤_, _<_}
+use native.Mathlib.Nat.{zero-div, zero-mod, mod-eq-of-lt}
 use native.Mathlib.Omega.{arith}
 use mathlib.Core.Path.{_≡_, refl, sym, ap, ap₂, _∙_}
 use mathlib.Core.Bool.{Bool, true, false, _&&_}
-use mathlib.Core.List.{List, [], _∷_, _++_, append-nil, append-assoc}
+use mathlib.Core.List.{List, [], _∷_, _++_}
 use lib.Dec.{eqb}
-use lib.ListN.{length, length-append, replicate, length-replicate}
-use lib.Bits.{bitXor}
+use lib.ListN.{length, replicate}
 use Rattle.bits.specs.Bits.{bits, number, flip}
 use Rattle.crc.specs.Crc.{shift, step, feed, crc}
-use Rattle.bits.proofs.Digits.{flips, length-bits, length-flips, bits-split, bits-number, bits-xor, number-bits, number-append, number-flips, number-lt}
+use Rattle.bits.proofs.Digits.{flips, length-bits, bits-number, number-bits, number-lt}
 
 -- ---- bits and bit lists, flipped
 
@@ -145,71 +144,7 @@ feed-absorb taps reg (b ∷ run) h =
     feed-absorb taps (step taps reg b) run (omega arith)
     ∙ ap (λ (r : List Bool). feed taps r (zeros (length run))) (sym (step-absorb taps reg b run (omega arith)))
 
--- ---- what zeros in the register's top places do: it is shifted, and nothing is fed back
-
-shift-behind : (taps rest : List Bool) → suc (length rest) ≡ length taps → shift false taps rest ≡ rest ++ (false ∷ [])
-unfolding shift
-shift-behind [] rest e = absurd (omega arith)
-shift-behind (t ∷ []) [] e = refl
-shift-behind (t ∷ u ∷ taps) [] e = absurd (omega arith)
-shift-behind (t ∷ taps) (r ∷ rest) e = ap (λ (l : List Bool). r ∷ l) (shift-behind taps rest (omega arith))
-
-feed-behind : (k : ℕ) (taps rest : List Bool) → k + length rest ≡ length taps → feed taps (zeros k ++ rest) (zeros k) ≡ rest ++ zeros k
-unfolding feed step
-feed-behind zero taps rest e = sym (append-nil rest)
-feed-behind (suc k) taps rest e =
-    ap (λ (reg : List Bool). feed taps reg (zeros k))
-    (shift-behind taps (zeros k ++ rest) (omega (arith, length-append (zeros k) rest, length-replicate k false))
-    ∙ append-assoc (zeros k) rest (false ∷ []))
-    ∙ feed-behind k taps (rest ++ (false ∷ [])) (omega (arith, length-append rest (false ∷ [])))
-    ∙ append-assoc rest (false ∷ []) (zeros k)
-
--- ---- places past the register's end count as zeros
-
-shift-pad : (f : Bool) (taps : List Bool) (n : ℕ) → shift f taps (zeros n) ≡ shift f taps []
-unfolding shift
-shift-pad f [] n = refl
-shift-pad f (t ∷ taps) zero = refl
-shift-pad f (t ∷ taps) (suc n) = ap₂ _∷_ (flip-false (f && t)) (shift-pad f taps n)
-
-feed-pad : (taps : List Bool) (n : ℕ) (b : Bool) (run : List Bool) → feed taps (zeros n) (b ∷ run) ≡ feed taps [] (b ∷ run)
-unfolding feed step
-feed-pad taps zero b run = refl
-feed-pad taps (suc n) b run = ap (λ (reg : List Bool). feed taps reg run) (shift-pad b taps n)
-
--- ---- sixteen listed remainders, or 2^k: a run of k bits is looked up in the checks of all such runs
-
-pub flips-zeros : (xs : List Bool) → flips xs (zeros (length xs)) ≡ xs
-unfolding flips
-flips-zeros [] = refl
-flips-zeros (x ∷ xs) = ap₂ _∷_ (flip-false x) (flips-zeros xs)
-
-flips-front : (top rest : List Bool) → flips top (zeros (length top) ++ rest) ≡ top ++ rest
-unfolding flips
-flips-front [] rest = refl
-flips-front (t ∷ top) rest = ap₂ _∷_ (flip-false t) (flips-front top rest)
-
--- a run shifted through a register that holds as much is a message of their difference, from zero
-feed-top : (taps : List Bool) (t : Bool) (top : List Bool) (b : Bool) (run : List Bool) (n : ℕ)
-    → length top ≡ length run → length (b ∷ run) ≤ length taps
-    → feed taps (t ∷ top) (b ∷ run) ≡ feed taps (zeros n) (flips (t ∷ top) (b ∷ run))
-unfolding flips
-feed-top taps t top b run n e h =
-    let same : length (flips top run) ≡ length run = length-flips top run (omega arith) ∙ e in
-    feed-absorb taps (t ∷ top) (b ∷ run) h
-    ∙ ap (λ (k : ℕ). feed taps (flips (t ∷ top) (b ∷ run)) (zeros (suc k))) (sym same)
-    ∙ sym (feed-absorb taps [] (flips (t ∷ top) (b ∷ run)) (omega arith))
-    ∙ sym (feed-pad taps n (flip t b) (flips top run))
-
-feed-lookup : (taps : List Bool) (t : Bool) (top rest : List Bool) (b : Bool) (run : List Bool)
-    → length top ≡ length run → length (t ∷ top) + length rest ≡ length taps
-    → feed taps ((t ∷ top) ++ rest) (b ∷ run)
-    ≡ flips (feed taps (zeros (length taps)) (flips (t ∷ top) (b ∷ run))) (rest ++ zeros (length (t ∷ top)))
-feed-lookup taps t top rest b run e w =
-    let k : ℕ = length (t ∷ top) in
-    ap₂ (feed taps) (sym (flips-front (t ∷ top) rest)) (sym (ap (λ (n : ℕ). flips (b ∷ run) (zeros (suc n))) e ∙ flips-zeros (b ∷ run)))
-    ∙ feed-flips taps (t ∷ top) (zeros k ++ rest) (b ∷ run) (zeros k) (omega (arith, length-replicate k false))
-    ∙ ap₂ flips (feed-top taps t top b run (length taps) e (omega arith)) (feed-behind k taps rest w)
+-- ---- zeros
 
 pub bits-zero : (k : ℕ) → bits k 0 ≡ zeros k
 unfolding bits
@@ -218,33 +153,3 @@ bits-zero (suc k) = ap₂ _∷_ (ap (λ (q : ℕ). eqb (q % 2) 1) (zero-div (2 ^
 
 pub number-zeros : (k : ℕ) → number (zeros k) ≡ 0
 number-zeros k = ap number (sym (bits-zero k)) ∙ number-bits k 0 ∙ zero-mod (2 ^ k)
-
-feed-lookup-bits : (taps : List Bool) (k j : ℕ) → length taps ≡ suc k + j → (c n : ℕ)
-    → feed taps (bits (length taps) c) (bits (suc k) n)
-    ≡ flips (feed taps (bits (length taps) 0) (bits (suc k) (bitXor (c / 2 ^ j) n))) (bits j c ++ zeros (suc k))
-unfolding bits
-feed-lookup-bits taps k j w c n =
-    let high : List Bool = bits k (c / 2 ^ j) in
-    ap (λ (reg : List Bool). feed taps reg (bits (suc k) n)) (ap (λ (m : ℕ). bits m c) w ∙ bits-split (suc k) j c)
-    ∙ feed-lookup taps (eqb (c / 2 ^ j / 2 ^ k % 2) 1) high (bits j c) (eqb (n / 2 ^ k % 2) 1) (bits k n)
-    (length-bits k (c / 2 ^ j) ∙ sym (length-bits k n))
-    (omega (arith, length-bits k (c / 2 ^ j), length-bits j c))
-    ∙ ap₂ flips
-    (ap₂ (feed taps) (sym (bits-zero (length taps))) (sym (bits-xor (suc k) (c / 2 ^ j) n)))
-    (ap (λ (m : ℕ). bits j c ++ zeros (suc m)) (length-bits k (c / 2 ^ j)))
-
--- a run of k + 1 bits is looked up among the checks of all runs of k + 1 bits: what leaves the register, flipped by the run, is the place,
--- and the rest of the register is shifted up
-pub crc-lookup : (taps : List Bool) (k j : ℕ) → length taps ≡ suc k + j → (c n : ℕ)
-    → crc taps c (bits (suc k) n) ≡ bitXor (crc taps 0 (bits (suc k) (bitXor (c / 2 ^ j) n))) (c % 2 ^ j * 2 ^ suc k)
-unfolding crc
-crc-lookup taps k j w c n =
-    let entry : List Bool = bits (suc k) (bitXor (c / 2 ^ j) n) in
-    ap number (feed-lookup-bits taps k j w c n)
-    ∙ number-flips (feed taps (bits (length taps) 0) entry) (bits j c ++ zeros (suc k))
-    (length-feed taps (bits (length taps) 0) entry (length-bits (length taps) 0)
-    ∙ w ∙ add-comm (suc k) j
-    ∙ sym (length-append (bits j c) (zeros (suc k)) ∙ ap₂ _+_ (length-bits j c) (length-replicate (suc k) false)))
-    ∙ ap (bitXor (number (feed taps (bits (length taps) 0) entry)))
-    (number-append (bits j c) (zeros (suc k))
-    ∙ rw (number-bits j c, number-zeros (suc k), length-replicate (suc k) false) (add-zero (c % 2 ^ j * 2 ^ suc k)))
