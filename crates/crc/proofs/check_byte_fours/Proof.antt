@@ -33,11 +33,13 @@ loop-again c =
     let at = c .before .before .before .before .before .before .before .loop in
     let four = c .before .four-words in
     let next = c .with-four in
+    let second = c .before .before .before .before in
+    let read = rw (second .before .word-at .ensures, second .word-at2 .ensures, c .before .before .before .word-at3 .ensures, c .before .before .word-at4 .ensures) at (four .ensures) in
     let there : at .i + 3 < length (wordsOf bytes) = omega (arith, length-words-of bytes) in (
       omega arith,
       omega arith,
       next .ensures .0,
-      leaves-more (wordsOf bytes) (at .i) there (four .result) (cc) (at .rest) (at .sum) (next .result) (at .inv .3) (next .ensures .1),
+      leaves-more (wordsOf bytes) (at .i) there (four .result) read (at .rest) (at .sum) (next .result) (at .inv .3) (next .ensures .1),
     )
 
 returns-2 : tie.Need-returns-2 Inv-loop μ-loop

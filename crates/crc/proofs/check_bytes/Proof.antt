@@ -1,13 +1,14 @@
 -- `crc::check_bytes` meets its contract, as `check_words` does: its words are those that the bytes make.
 -- Assumes nothing.
-use Prim.Native.Nat.{_-_, _/_, _≤_, _<_}
+use Prim.Native.Nat.{ℕ, _-_, _/_, _≤_, _<_}
 use native.Mathlib.Omega.{arith}
-use mathlib.Core.Path.{_≡_}
+use mathlib.Core.Path.{_≡_, sym, ap, _∙_}
+use mathlib.Core.List.{[], _∷_}
 use borrow.Author.Needs.{needs}
-use lib.ListN.{length, take}
+use lib.ListN.{length, getD, take}
 use lib.Seq.{take-all}
 use Rattle.bits.specs.Bits.{wordsOf}
-use Rattle.crc.specs.Crc.{crc16}
+use Rattle.crc.specs.Crc.{crc16, crc16After}
 use Rattle.crc.proofs.Words.{crc16-next, length-words-of}
 use Rattle.crc.proofs.check_bytes.Statement.{statement}
 use Rattle.crc.proofs.check_bytes.Tie as tie
@@ -24,9 +25,12 @@ loop-holds c = (omega arith, c .check-byte-fours .ensures)
 loop-again : tie.Need-loop-again Inv-loop μ-loop
 loop-again c =
     let bytes = c .before .before .before .before .before .before .args .bytes .now in
-    let i = c .before .before .before .loop .i in
-    let there : i < length (wordsOf bytes) = omega (arith, length-words-of bytes) in
-    (omega arith, cc (crc16-next (wordsOf bytes) i there))
+    let at = c .before .before .before .loop in
+    let there : at .i < length (wordsOf bytes) = omega (arith, length-words-of bytes) in (
+      omega arith,
+      rw (c .before .word-at .ensures) at (c .check-word .ensures)
+          ∙ ap (λ (s : ℕ). crc16After s (getD (wordsOf bytes) (at .i) 0 ∷ [])) (at .inv .1) ∙ sym (crc16-next (wordsOf bytes) (at .i) there),
+    )
 
 returns : tie.Need-returns Inv-loop μ-loop
 returns c =
