@@ -34,6 +34,8 @@ extern "C" {
 #define SPI2_READ 0x0Eu         /* length 0 to 63, sub-address 0 to 255 */
 #define SPI2_CONFIG_WRITE 0x20u /* length 2, sub-address 0; payload: the write base, its high word first */
 #define SPI2_CONFIG_READ 0x21u  /* length 2, sub-address 0; payload: the read base, its high word first */
+#define SPI2_ACTIVATE 0x24u     /* length 0, sub-address 0: switches the card's other port on */
+#define SPI2_DEACTIVATE 0x25u   /* length 0, sub-address 0: switches the card's other port off */
 
 /* A base is a byte address of the card's memory and should be even: a block of WRITE or READ begins at the word
  * base / 2 + sub-address, and by an odd base the card refuses both, with AR. */

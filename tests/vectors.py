@@ -9,7 +9,9 @@ from pathlib import Path
 
 sys.dont_write_bytecode = True  # leave no __pycache__ in the repository
 
-from second import apart, known, pins, refused_calls, sure, trace, unit, vector_records
+from second import (
+    apart, known, pins, port_refusals, ports, ports_pins, refused_calls, sure, trace, unit, vector_records,
+)
 
 # Each file and its maker, which gives the number of records and the content.
 FILES = [
@@ -29,6 +31,14 @@ FILES = [
     ("crates/unit/stdout", unit.stdout),
     ("crates/trace_vectors/stdin", trace.vectors_stdin),
     ("crates/trace_vectors/stdout", trace.vectors_stdout),
+    ("crates/ports/stdin", ports.stdin),
+    ("crates/ports/stdout", ports.stdout),
+    ("crates/port_vectors/stdin", ports.vectors_stdin),
+    ("crates/port_vectors/stdout", ports.vectors_stdout),
+    ("crates/ports_at_pins/stdin", ports_pins.stdin),
+    ("crates/ports_at_pins/stdout", ports_pins.stdout),
+    ("crates/port_refusals/stdin", port_refusals.stdin),
+    ("crates/port_refusals/stdout", port_refusals.stdout),
     ("examples/document-01.txt", lambda: trace.shown("document-01")),
     ("examples/accident.txt", lambda: trace.shown("accident")),
 ]
@@ -74,6 +84,9 @@ def main(arguments):
     sure.self_test()
     refused_calls.self_test()
     unit.self_test()
+    ports.self_test()
+    ports_pins.self_test()
+    port_refusals.self_test()
     print(f"crates/unit: {unit.statistic()}")
     handle = write if arguments else compare
     results = [handle(path, *maker()) for path, maker in FILES]

@@ -18,7 +18,7 @@ static struct {
     unsigned long least, seen;
 } kinds[] = {
     {"command_token", "limits", 200, 0},  {"command_token", "inside", 3000, 0},  {"command_token", "above", 1000, 0},
-    {"command_token", "near", 1000, 0},   {"command_token", "drawn", 1000, 0},
+    {"command_token", "near", 1000, 0},   {"command_token", "drawn", 1000, 0},   {"command_token", "row", 20, 0},
 
     {"read_command", "good", 1000, 0},    {"read_command", "flipped", 1000, 0},  {"read_command", "check", 1000, 0},
     {"read_command", "prefix", 2000, 0},  {"read_command", "spare", 2000, 0},    {"read_command", "other", 1000, 0},
@@ -44,6 +44,7 @@ static struct {
     {"RESET", SPI2_RESET, 0}, {"SYNCH", SPI2_SYNCH, 0}, {"TICK", SPI2_TICK, 0},
     {"READBACK", SPI2_READBACK, 0}, {"WRITE", SPI2_WRITE, 0}, {"READ", SPI2_READ, 0},
     {"CONFIG_WRITE", SPI2_CONFIG_WRITE, 0}, {"CONFIG_READ", SPI2_CONFIG_READ, 0},
+    {"ACTIVATE", SPI2_ACTIVATE, 0}, {"DEACTIVATE", SPI2_DEACTIVATE, 0},
 };
 enum { CODES = sizeof codes / sizeof codes[0] };
 

@@ -5,11 +5,11 @@ from itertools import cycle
 
 from .addresses import base_of, word_address
 from .apart_records import FILLER, PART, TELL, sent_with, take, taken, tell
-from .tokens import READ, command_token, with_check
+from .tokens import NO_COMMAND, READ, command_token, with_check
 from .trace_listed import BLOCK, MOST, SETTING
 from .trace_records import (
-    RELEASE, SELECT, all_sent, config_read, config_write, read, readback, record, release, reset, select, sent, synch,
-    tick, words, write,
+    RELEASE, SELECT, activate, all_sent, config_read, config_write, deactivate, read, readback, record, release, reset,
+    select, sent, synch, tick, words, write,
 )
 
 LENGTHS = (1, 2, 3, 63)
@@ -218,13 +218,22 @@ def other_commands(device):
     return records
 
 
+def port_commands(device):
+    """ACTIVATE and DEACTIVATE with no, one and three tellings of each word: accepted, and READBACK shows the token."""
+    records = b""
+    for message in (activate(), deactivate()):
+        for number in (0, 1, 3):
+            records += sent_with(number * tell(), message) + sent_with(tell(), readback())
+    return records
+
+
 def failing_tokens(device):
     """READs with a wrong CRC-4, prefix, spare or code, beyond the memory, and by an odd base: zeros are told, whatever
     the device writes, and the next token shows the status bits."""
     good1, good2, *filler = read(2, PLACE, FILLER)
     tokens = [
         (good1, good2 ^ 1), (good1 ^ 0x4000, good2), with_check(good1 ^ 0x8000, good2), with_check(good1, good2 ^ 0x10),
-        command_token(0x24, 2, PLACE), command_token(READ, 2, 255), command_token(READ, 63, 194),
+        command_token(NO_COMMAND, 2, PLACE), command_token(READ, 2, 255), command_token(READ, 63, 194),
     ]
     records = device.fill(PLACE, 3) + device.fill(253, 3)
     for token in tokens:
@@ -277,6 +286,6 @@ def listed_records(device):
         no_message_open, written_after_telling, told_twice, taken_without_telling, mixed_tellings, reads_with_a_base,
         told_then_released, nothing_told_next, behind_the_last_word, beyond_67_words, messages_of_no_bits,
         part_of_the_memory, refused_while_told, unknown_kinds, other_bytes, other_commands, failing_tokens,
-        reads_of_no_words, written_between_messages, written_inside_write,
+        reads_of_no_words, written_between_messages, written_inside_write, port_commands,
     )
     return b"".join(case(device) for case in cases)

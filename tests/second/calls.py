@@ -26,6 +26,10 @@ from .vector_records import drawn_flips, every_response_token, flipped, one_bit_
 ARGUMENT = 5
 GOOD = 1 << 31
 
+CODES = (
+    "RESET", "SYNCH", "TICK", "READBACK", "WRITE", "READ", "CONFIG_WRITE", "CONFIG_READ", "ACTIVATE", "DEACTIVATE",
+)
+
 
 def refusal(number):
     return number * 65536
@@ -75,6 +79,9 @@ def fields_to_build(draw):
     limits = (0, 1, 31, 32, 62, 63), (0, 1, 31, 32, 62, 63), (0, 1, 127, 128, 254, 255)
     for fields in product(*limits):
         yield "limits", fields
+    for code, (least, most, last) in tokens.ROWS.items():
+        yield "row", (code, least, 0)
+        yield "row", (code, most, last)
     for _ in range(3000):
         yield "inside", (draw.below(64), draw.below(64), draw.below(256))
     for place, most in enumerate((63, 63, 255)):
@@ -181,7 +188,7 @@ def write(out):
         place = start if start == "null" else str(start)
         line("payload_check", kind, place, str(len(payload)), payload_check(payload))
         out.write(payload + b"\n")
-    for name in ("RESET", "SYNCH", "TICK", "READBACK", "WRITE", "READ", "CONFIG_WRITE", "CONFIG_READ"):
+    for name in CODES:
         line("code", name, getattr(tokens, name))
     out.write(f"end {number}\n".encode("ascii"))
 

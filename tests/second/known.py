@@ -1,11 +1,11 @@
-"""The values printed in document 01, some of requests 2 and 3 worked by hand, and the test of this program against
+"""The values printed in document 01, some of requests 2, 3 and 5 worked by hand, and the test of this program against
 them."""
 
 from .addresses import base_of
 from .card import AR, CLEAN, IC, ME, Card, exchanged, judge, take, tell, whole_message
 from .checks import crc4, crc16
 from .tokens import (
-    CONFIG_WRITE, READ, READBACK, RESET, ROWS, SYNCH, TICK, WRITE,
+    ACTIVATE, CONFIG_WRITE, DEACTIVATE, NO_COMMAND, READ, READBACK, RESET, ROWS, SYNCH, TICK, WRITE,
     command_marks, command_token, read_command, read_response, response_marks, response_token,
 )
 from .trace_records import config_write, read, write
@@ -21,10 +21,13 @@ COMMANDS = [
     ((TICK, 0, 0), (0x48C0, 0x403C)),
     ((TICK, 0, 63), (0x48C0, 0x4FFD)),
     ((CONFIG_WRITE, 2, 0), (0x60C2, 0x403E)),
-    # The next two stand under "Run and compared", the last one in the trace example.
+    # The next two stand under "Run and compared", the third one in the trace example.
     ((TICK, 0, 64), (0x48C0, 0x5033)),
-    ((0x24, 0, 0), (0x64C0, 0x4034)),
+    ((ACTIVATE, 0, 0), (0x64C0, 0x4034)),
     ((READ, 1, 0), (0x4EC1, 0x4037)),
+    # Request 5: the other row that it brings, and the code that is unknown now.
+    ((DEACTIVATE, 0, 0), (0x65C0, 0x403E)),
+    ((NO_COMMAND, 0, 0), (0x66C0, 0x4033)),
 ]
 
 # (STF, ME, AR, IC, module state), (word 1, word 2)
@@ -41,10 +44,13 @@ CHECKS = [
     ([0x0003], 0x000A),
 ]
 
-# The words of a message, and the status bits that it sets: what stands under "Run and compared".
+# The words of a message, and the status bits that it sets: what stands under "Run and compared". Code 0x24 is accepted
+# since request 5, and so is 0x25; 0x26 is the unknown one.
 JUDGED = [
     ([0x48C0, 0x5033], AR),
-    ([0x64C0, 0x4034], IC),
+    ([0x64C0, 0x4034], CLEAN),
+    ([0x65C0, 0x403E], CLEAN),
+    ([0x66C0, 0x4033], IC),
     (read(1, 255), CLEAN),
     (read(2, 255), AR),
     (write(255, []), CLEAN),
@@ -112,8 +118,10 @@ def test_checks():
 
 
 def test_table():
-    agree("number of rows", len(ROWS), 8)
-    agree("code 0x24 has a row", 0x24 in ROWS, False)
+    agree("number of rows", len(ROWS), 10)
+    agree("row of code 0x24", ROWS[0x24], (0, 0, 0))
+    agree("row of code 0x25", ROWS[0x25], (0, 0, 0))
+    agree("code 0x26 has a row", 0x26 in ROWS, False)
     agree("last index of TICK", ROWS[TICK][2], 63)
 
 

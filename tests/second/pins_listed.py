@@ -5,10 +5,11 @@ from .apart_listed import PLACE
 from .apart_records import FILLER
 from .checks import word_bits
 from .pins_records import BITS, always, clock, cut, cut_words, first, inside, sent_and_written, sent_in_pieces
-from .tokens import READ, command_token
+from .tokens import NO_COMMAND, READ, command_token
 from .trace_listed import MOST, SETTING
 from .trace_records import (
-    RELEASE, SELECT, WORD, all_sent, read, readback, record, release, select, sent, tick, words, write,
+    RELEASE, SELECT, WORD, activate, all_sent, deactivate, read, readback, record, release, select, sent, tick, words,
+    write,
 )
 
 # The lengths of READ: short ones, and the most.
@@ -81,7 +82,7 @@ def words_in_pieces(device):
         *before_check, check = new_write(device)
         messages = (
             read(3, PLACE, FILLER), readback(FILLER), new_write(device), [good1, good2 ^ 1, *filler],
-            [*command_token(0x24, 2, PLACE), *filler], [*command_token(READ, 2, 255), *filler],
+            [*command_token(NO_COMMAND, 2, PLACE), *filler], [*command_token(READ, 2, 255), *filler],
             [*before_check, check ^ 1],
         )
         for message in messages:
@@ -222,11 +223,20 @@ def other_bytes(device):
     return opened + record(RELEASE, 0, FILLER) + shown()
 
 
+def port_commands(device):
+    """ACTIVATE and DEACTIVATE in whole words and in pieces: accepted, and nothing but status and last token changes."""
+    records = b""
+    for message in (activate(), deactivate()):
+        for sizes in ((16,), (5, 11)):
+            records += sent_in_pieces(cut_words(message, *sizes)) + shown()
+    return records
+
+
 def listed_records(device):
     """All listed cases, in a fixed order."""
     cases = (
         no_message_open, written_inside_words, written_before_words, neighbours_written, words_in_pieces, shared_words,
         beyond_67_words, unfinished_words, words_ended_by_release, commands_ended_by_release, cleared_by_select,
-        numbers_of_bits, messages_of_no_bits, refused_inside_words, other_bytes,
+        numbers_of_bits, messages_of_no_bits, refused_inside_words, other_bytes, port_commands,
     )
     return b"".join(case(device) for case in cases)

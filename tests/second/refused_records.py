@@ -12,7 +12,7 @@ from functools import lru_cache
 from itertools import combinations
 
 from .draw import Draw
-from .tokens import CONFIG_READ, READ, READBACK, WRITE
+from .tokens import CONFIG_READ, PORT_COMMANDS, READ, READBACK, WRITE
 
 PowerUp = namedtuple("PowerUp", "size")
 Build = namedtuple("Build", "code length sub_address block room")
@@ -103,6 +103,16 @@ def built_messages():
         records += alone(lawful, code=(63, 64, 0x0100 + code), length=(4, 0x0103), sub_address=(256, 0x0105))
         records += alone(lawful, block=(0, 1, 2, 3, 4), room=(0, 5, 7))
         records += alone(lawful._replace(room=5), code=(64,), length=(64,), sub_address=(256,), block=(2,))
+    return records
+
+
+def built_port_commands():
+    """ACTIVATE and DEACTIVATE: two words, and no block."""
+    records = []
+    for code in PORT_COMMANDS:
+        lawful = Build(code, 0, 0, 0, 2)
+        records += alone(lawful, code=(0x0100 + code,), length=(1,), sub_address=(1, 256), block=(1,), room=(0, 1, 3))
+        records += pairs(lawful, length=64, sub_address=256, block=1, room=1)
     return records
 
 
@@ -299,4 +309,4 @@ def all_records():
     # Behind the drawn ones, so that those keep their places.
     counted = counted_words()
     records += counted + with_a_word_told(counted)
-    return each_once(records + with_a_word_not_told(records))
+    return each_once(records + with_a_word_not_told(records) + built_port_commands())

@@ -10,6 +10,14 @@ WRITE = 0x0D
 READ = 0x0E
 CONFIG_WRITE = 0x20
 CONFIG_READ = 0x21
+ACTIVATE = 0x24
+DEACTIVATE = 0x25
+
+# Request 5 (document 02) has brought these two; the others stand in document 01.
+PORT_COMMANDS = (ACTIVATE, DEACTIVATE)
+
+# The tests' code that no row has.
+NO_COMMAND = 0x26
 
 # code: (least length, most length, last sub-address)
 ROWS = {
@@ -21,7 +29,12 @@ ROWS = {
     READ: (0, 63, 255),
     CONFIG_WRITE: (2, 2, 0),
     CONFIG_READ: (2, 2, 0),
+    ACTIVATE: (0, 0, 0),
+    DEACTIVATE: (0, 0, 0),
 }
+
+# Drawn codes are drawn from these, so that a request's rows leave what was drawn before.
+FIRST_CODES = tuple(code for code in ROWS if code not in PORT_COMMANDS)
 
 
 def field(word, high, low):

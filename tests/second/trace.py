@@ -7,10 +7,10 @@ from pathlib import Path
 from . import example, pins
 from .call_answers import ARGUMENT, CLOSED, OPEN, RECORD
 from .card import Card, exchanged, whole_message, with_module
-from .trace_drawn import drawn_traces
+from .trace_drawn import TRACES, drawn_traces
 from .trace_listed import (
-    damaged_writes, dropped_writes, first_failing_step, listed_traces, most_words, odd_configs, readbacks,
-    short_messages,
+    damaged_writes, dropped_writes, first_failing_step, listed_traces, most_words, odd_configs, port_commands,
+    readbacks, short_messages,
 )
 from .trace_records import (
     MEMORY_WORDS, MODULE, MOST_LEFT, RECORD_BYTES, RELEASE, SELECT, WORD, Record, parts, record_of,
@@ -124,7 +124,8 @@ def pins_stdout():
 
 @lru_cache(maxsize=None)
 def all_traces():
-    return listed_traces() + drawn_traces()
+    # The last ones stand behind the drawn ones, so that those keep their places.
+    return listed_traces() + drawn_traces() + port_commands()
 
 
 @lru_cache(maxsize=None)
@@ -162,7 +163,8 @@ def self_test():
     if replay(example.RECORDS) != example.OUTPUT:
         raise AssertionError("the example of document 01 gives another output")
     test_pins()
-    drawn = all_outputs()[len(listed_traces()):]
+    first = len(listed_traces())
+    drawn = all_outputs()[first:first + TRACES]
     lines = {line for output in drawn for line in output.splitlines() if line[0] in "RE"}
     wanted = {"R 000", "R 100", "R 010", "R 001", "R 101", "E 3", "E 4", "E 5", "E 9"}
     if lines != wanted:

@@ -7,7 +7,7 @@ from .trace_records import (
     config_read, config_write, module, read, readback, record, release, reset, select, synch, tick,
     words, write,
 )
-from .tokens import ROWS, command_token
+from .tokens import FIRST_CODES, command_token
 
 TRACES = 180
 SEED = 20000
@@ -47,7 +47,7 @@ def time(draw):
 
 def any_token(draw):
     """A good token of any code, with a few words behind it."""
-    code = draw.pick((draw.below(64), draw.pick(tuple(ROWS))))
+    code = draw.pick((draw.below(64), draw.pick(FIRST_CODES)))
     return [*command_token(code, length(draw), draw.below(256)), *draw.words(draw.below(4))]
 
 

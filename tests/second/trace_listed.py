@@ -3,10 +3,10 @@
 from .addresses import word_address
 from .trace_records import (
     MODULE, RELEASE, SELECT, WORD,
-    all_sent, config_read, config_write, module, read, readback, record, release, reset, select,
+    activate, all_sent, config_read, config_write, deactivate, module, read, readback, record, release, reset, select,
     sent, synch, tick, words, write,
 )
-from .tokens import READ, RESET, ROWS, TICK, WRITE, command_token, with_check
+from .tokens import NO_COMMAND, READ, RESET, ROWS, TICK, WRITE, command_token, with_check
 
 BLOCK = [0x1234, 0xABCD, 0x8001]
 MOST = [(index * 0x0B05 + 0x7003) & 0xFFFF for index in range(63)]
@@ -16,7 +16,7 @@ SETTING = {
     "none": [0x40C0, 0x4033],
     "ME": [0x40C0, 0x4032],
     "AR": [0x48C0, 0x5033],
-    "IC": [0x64C0, 0x4034],
+    "IC": [0x66C0, 0x4033],
     "ME and IC": [0x00C0, 0x4033],
 }
 
@@ -29,18 +29,19 @@ BASES = (
 
 
 def run_and_compared():
-    """Document 01's cases, each followed by a READBACK that shows status and last token."""
+    """Document 01's cases, each followed by a READBACK that shows status and last token. Code 0x24 is accepted since
+    request 5, and 0x26 is unknown in its place."""
     one = write(0, [0x5A5A])
-    messages = [
-        [0x48C0, 0x5033],
-        [0x64C0, 0x4034],
-        read(1, 255),
-        read(2, 255),
-        [0x4DC0, 0x7FFB],
-        one[:-1],
-        [*one, 0],
+    cases = [
+        [[0x48C0, 0x5033]],
+        [[0x64C0, 0x4034], [0x66C0, 0x4033]],
+        [read(1, 255)],
+        [read(2, 255)],
+        [[0x4DC0, 0x7FFB]],
+        [one[:-1]],
+        [[*one, 0]],
     ]
-    return [all_sent(message, readback(), read(1, 0)) for message in messages]
+    return [b"".join(all_sent(message, readback(), read(1, 0)) for message in case) for case in cases]
 
 
 def short_messages():
@@ -65,7 +66,7 @@ def nothing_between():
 def long_messages():
     """Messages of 66, 67, 68 and 80 words, with and without left-over bits."""
     starts = (write(0, MOST), read(63, 0), readback(), reset(), tick(0), write(0, []),
-              [0x64C0, 0x4034], [0x0000, 0x0000], read(63, 255))
+              SETTING["IC"], [0x0000, 0x0000], read(63, 255))
     traces = []
     for start in starts:
         records = all_sent(write(0, MOST[:4]))
@@ -314,7 +315,7 @@ def marks():
 def wrong_checks():
     """Each of the fifteen wrong values of CRC-4, for a known and an unknown code."""
     records = b""
-    for code in (TICK, 0x24, 0x3F):
+    for code in (TICK, NO_COMMAND, 0x3F):
         word1, word2 = command_token(code, 0, 1)
         records += all_sent(*[[word1, word2 ^ wrong] for wrong in range(16)], readback())
     return records
@@ -322,9 +323,9 @@ def wrong_checks():
 
 def first_failing_step():
     """Several faults in one message: the first failing step decides alone."""
-    after_unknown = with_check(0xE4C0, 0x4030)
+    after_unknown = with_check(0xE6C0, 0x4030)
     records = all_sent(
-        [0x64C0, 0x4035], after_unknown, [after_unknown[0], after_unknown[1] ^ 1], [0, 0], [0, 1],
+        [0x66C0, 0x4032], after_unknown, [after_unknown[0], after_unknown[1] ^ 1], [0, 0], [0, 1],
         [0xFFFF, 0xFFFF], [*command_token(READ, 2, 255), 0], [*command_token(WRITE, 2, 255), 0],
         [*command_token(WRITE, 2, 255), 1, 2, 0], [*command_token(WRITE, 1, 0), 5, 0, 0],
         [*command_token(WRITE, 1, 0), 5, 0], [*command_token(0x3F, 1, 0), 5, 0], read(1, 0),
@@ -458,8 +459,34 @@ def open_at_end():
     return [select() + words(message) for message in ([], tick(9), synch(9), write(0, BLOCK))]
 
 
+def refused_forms(message):
+    """A command of two words, refused in each way: its words and left-over bits."""
+    first, second = message
+    other_tokens = [
+        (first, second ^ 1), with_check(first ^ 0x8000, second), with_check(first ^ 0x40, second),
+        with_check(first, second ^ 0x4000), with_check(first, second ^ 0x10),
+        with_check(first | 1, second), with_check(first, second | 0x40),
+    ]
+    forms = [([*token], 0) for token in other_tokens]
+    return forms + [([first], 0), ([*message, 0], 0), ([], 1), (message, 1), (message, 15)]
+
+
+def port_commands():
+    """ACTIVATE and DEACTIVATE at a card of which one port alone is used: accepted, and they change nothing but status
+    and last token. Refused in each way, they change the status alone."""
+    traces = []
+    for message in (activate(), deactivate()):
+        shown = all_sent(readback(), read(3, 0), write(0, [0x0C0C]), read(3, 0), tick(2))
+        traces.append(before_reset(80) + all_sent(message) + shown + module(9) + all_sent(message, readback()))
+        after_settings = [[tick(5), setting, message, readback()] for setting in SETTING.values()]
+        traces.append(b"".join(all_sent(*messages) for messages in after_settings))
+        refused = [sent(*form) for form in refused_forms(message)]
+        traces.append(b"".join(all_sent(tick(5)) + form + all_sent(readback()) for form in refused))
+    return traces
+
+
 def listed_traces():
-    """All listed traces, in a fixed order."""
+    """All listed traces but those of port_commands, in a fixed order."""
     single = (
         short_messages, nothing_between, most_words, lengths, readbacks, far_bases, halved_bases, base_bits,
         odd_configs, odd_base_steps, refused_config, dropped_writes, dropped_long_writes, damaged_writes, marks,

@@ -4,7 +4,7 @@ from typing import NamedTuple
 
 from .checks import crc16
 from .tokens import (
-    CONFIG_READ, CONFIG_WRITE, READ, READBACK, RESET, SYNCH, TICK, WRITE, command_token,
+    ACTIVATE, CONFIG_READ, CONFIG_WRITE, DEACTIVATE, READ, READBACK, RESET, SYNCH, TICK, WRITE, command_token,
 )
 
 SELECT, WORD, RELEASE, MODULE = 1, 2, 3, 4
@@ -106,3 +106,11 @@ def config_write(base):
 
 def config_read(base):
     return with_payload(CONFIG_READ, 0, [base >> 16, base & 0xFFFF])
+
+
+def activate():
+    return with_payload(ACTIVATE, 0, [])
+
+
+def deactivate():
+    return with_payload(DEACTIVATE, 0, [])

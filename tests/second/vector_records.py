@@ -6,7 +6,7 @@ from itertools import product
 from . import known, vector_answers
 from .checks import crc16
 from .draw import Draw
-from .tokens import ROWS, command_token, response_token, with_check
+from .tokens import FIRST_CODES, NO_COMMAND, PORT_COMMANDS, ROWS, command_token, response_token, with_check
 
 SEED = 1
 MOST_WORDS = 130
@@ -90,9 +90,10 @@ def token_and_each_flip(token, spare):
         yield with_check(*flipped(token, flips))
 
 
-def row_tokens(draw):
-    """Tokens at the limits of each row, drawn ones inside it, and drawn ones of any fields."""
-    for code, (least, most, last) in ROWS.items():
+def row_tokens(draw, codes):
+    """Tokens at the limits of each code's row, drawn ones inside it, and drawn ones of any fields."""
+    for code in codes:
+        least, most, last = ROWS[code]
         yield command_token(code, least, 0)
         yield command_token(code, most, last)
         for _ in range(8):
@@ -126,7 +127,7 @@ def tokens(draw):
     for token in responses:
         yield from token_and_each_flip(token, RESPONSE_SPARE)
     yield from mixed_tokens(commands, responses)
-    for token in [*row_tokens(draw), *every_code_tokens(draw)]:
+    for token in [*row_tokens(draw, FIRST_CODES), *every_code_tokens(draw)]:
         yield from token_and_damaged(draw, token, COMMAND_SPARE)
     for token in every_response_token():
         yield from token_and_damaged(draw, token, RESPONSE_SPARE)
@@ -134,6 +135,9 @@ def tokens(draw):
         pair = draw.words(2)
         yield pair
         yield with_check(*pair)
+    # Behind the drawn ones, so that those keep their places.
+    for token in row_tokens(draw, PORT_COMMANDS):
+        yield from token_and_damaged(draw, token, COMMAND_SPARE)
 
 
 def commands_to_build(draw):
@@ -148,6 +152,8 @@ def commands_to_build(draw):
         yield draw.below(80), draw.below(80), draw.below(320)
     for _ in range(50):
         yield draw.words(3)
+    # Behind the drawn ones, so that those keep their places; 0x0124 looks as ACTIVATE where only its low byte is taken.
+    yield from product((*PORT_COMMANDS, NO_COMMAND, 0x0124), (0, 1, 64), (0, 1, 256))
 
 
 def responses_to_build(draw):

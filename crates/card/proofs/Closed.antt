@@ -18,7 +18,7 @@ use Rattle.token.specs.declared.command.Command.{Command}
 use Rattle.token.specs.Command.{tokenOf, commandFields}
 use Rattle.token.specs.Response.{clean, anySet}
 use Rattle.token.specs.declared.response.Status.{Status}
-use Rattle.card.specs.Release.{block, silent, judged, acted, noted, ended, writes, stored, endedMemory, releaseRefusal, released, memoryAfter}
+use Rattle.card.specs.Release.{block, silent, judged, acted, noted, ended, isAccepted, writes, stored, endedMemory, releaseRefusal, released, memoryAfter}
 use Rattle.card.specs.Card.{givesCard, selected}
 use Rattle.card.specs.Exchange.{fields, told}
 use Rattle.card.specs.State.{emptied, withMessage}
@@ -103,7 +103,7 @@ module _ (c : Card) (memory : List ℕ) (idle : Idle c memory) where
   released-held ws k left h l = rw (release-quiet ws k left h l, ended-held ws k left)
 
   memory-held : (ws : List ℕ) (k left : ℕ) → length ws ≤ 67 → left ≤ 15 → memoryAfter (holding c ws k) memory left ≡ memoryEnded c memory ws left
-  unfolding memoryAfter endedMemory memoryEnded memoryActed writes silent unheard stored holding
+  unfolding memoryAfter endedMemory memoryEnded memoryActed writes isAccepted silent unheard stored holding
   memory-held ws k left h l =
       rw (release-quiet ws k left h l, judged-held ws k left) (go (eqb (length ws) 0 && eqb left 0) (anySet (judgedBy c ws left)) _ _)
     where

@@ -43,12 +43,12 @@ in-range c h = go (sized (c .size)) refl (ltb 67 (c .port .message .count)) refl
 -- ---- a call that is not refused
 
 -- refusals in order: where the number is None, the first test fails, and the number behind it is None
-fails : (t : Bool) {n m : ℕ} → (n ≡ refusal.None → ⊥) → cond t n m ≡ refusal.None → (t ≡ false) × (m ≡ refusal.None)
+pub fails : (t : Bool) {n m : ℕ} → (n ≡ refusal.None → ⊥) → cond t n m ≡ refusal.None → (t ≡ false) × (m ≡ refusal.None)
 fails true r h = absurd (r h)
 fails false r h = (refl, h)
 
 -- the same for a test that refuses where it fails
-holds : (t : Bool) {n m : ℕ} → (m ≡ refusal.None → ⊥) → cond t n m ≡ refusal.None → (t ≡ true) × (n ≡ refusal.None)
+pub holds : (t : Bool) {n m : ℕ} → (m ≡ refusal.None → ⊥) → cond t n m ≡ refusal.None → (t ≡ true) × (n ≡ refusal.None)
 holds true r h = (refl, h)
 holds false r h = absurd (r h)
 

@@ -36,7 +36,7 @@ not-out c r = rw (r .size, le-ltb 67 _ (r .count), le-ltb 15 _ (r .module-state)
 
 -- ---- each call leaves a sound card. Its ranges are known (Ranges.antt), and each case takes them over.
 
-powered-sound : (size : ℕ) → powered size .refusal ≡ refusal.None → Sound (powered size .card)
+pub powered-sound : (size : ℕ) → powered size .refusal ≡ refusal.None → Sound (powered size .card)
 unfolding fresh emptied commandFits
 powered-sound size h =
     powered-case (λ a. a .refusal ≡ refusal.None → InRange (a .card) → Sound (a .card)) size (λ h i. absurd (omega arith))
@@ -61,14 +61,14 @@ module-sound c stf state s =
     (λ q i. record { ranged = i; last = s .last; closed = s .closed; none-told = s .none-told })
     (module-ranged c stf state (s .ranged))
 
-told-sound : (c : Card) (memory : List ℕ) → Sound c → Sound (told c memory .card)
+pub told-sound : (c : Card) (memory : List ℕ) → Sound c → Sound (told c memory .card)
 unfolding withTold
 told-sound c memory s =
     told-case (λ a. InRange (a .card) → Sound (a .card)) c memory (λ r i. s)
     (λ q i. record { ranged = i; last = s .last; closed = λ e. never (sym (lent c (length memory) q .opened) ∙ e); none-told = λ e. never e })
     (told-ranged c memory (s .ranged))
 
-took-sound : (c : Card) (memory : List ℕ) (word : ℕ) → Sound c → Sound (took c memory word .card)
+pub took-sound : (c : Card) (memory : List ℕ) (word : ℕ) → Sound c → Sound (took c memory word .card)
 unfolding taken
 took-sound c memory word s =
     took-case (λ a. InRange (a .card) → Sound (a .card)) c memory word (λ r i. s)
@@ -88,7 +88,7 @@ ended-sound c left s =
       none-told = λ e. refl;
     })
 
-released-sound : (c : Card) (size left : ℕ) → Sound c → Sound (released c size left .card)
+pub released-sound : (c : Card) (size left : ℕ) → Sound c → Sound (released c size left .card)
 released-sound c size left s =
     released-case (λ a. InRange (a .card) → Sound (a .card)) c size left (λ r i. s) (λ q. ended-sound c left s) (released-ranged c size left (s .ranged))
 

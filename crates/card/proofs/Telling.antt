@@ -8,7 +8,7 @@ use lib.ListN.{length}
 use Rattle.rules.specs.Refusals as refusal
 use Rattle.card.specs.Card.{givesCard, powered, selected, wordRefusal}
 use Rattle.card.specs.Exchange.{nextWord, payloadWord, passedWord, taken, told, took, exchanged, withTold}
-use Rattle.card.specs.Release.{silent, judged, noted, acted, ended, writes, stored, endedMemory, releaseRefusal, released, memoryAfter}
+use Rattle.card.specs.Release.{silent, judged, noted, acted, ended, isAccepted, writes, stored, endedMemory, releaseRefusal, released, memoryAfter}
 use Rattle.card.specs.State.{emptied, fresh, noteOf, noNote, withMessage, withNote}
 use Rattle.card.specs.declared.Card.{Card}
 use Rattle.card.specs.declared.CardAfter.{CardAfter}
@@ -105,5 +105,5 @@ unfolding released releaseRefusal ended silent judged noted acted
 release-ignores-note c n size left quiet = rw (note-refusal c n size, quiet)
 
 pub memory-ignores-note : (c : Card) (n : Note) (memory : List ℕ) (left : ℕ) → memoryAfter (withNote c n) memory left ≡ memoryAfter c memory left
-unfolding memoryAfter releaseRefusal endedMemory writes silent judged stored
+unfolding memoryAfter releaseRefusal endedMemory writes isAccepted silent judged stored
 memory-ignores-note c n memory left = rw (note-refusal c n (length memory))

@@ -89,9 +89,13 @@ ended c left =
     cond (silent c left) (withMessage c (emptied false))
     (cond (anySet (judged c left)) (noted c (judged c left)) (acted c))
 
+-- the message is accepted: it has a bit, and steps 1 to 5 set none of ME, AR and IC
+unfoldable pub isAccepted : Card → ℕ → Bool
+isAccepted c left = not (silent c left) && not (anySet (judged c left))
+
 -- the message is an accepted WRITE
 unfoldable pub writes : Card → ℕ → Bool
-writes c left = not (silent c left) && not (anySet (judged c left)) && eqb (fields c .code) (write .code)
+writes c left = isAccepted c left && eqb (fields c .code) (write .code)
 
 -- the memory with the block at write base / 2 + sub-address
 unfoldable pub stored : Card → List ℕ → List ℕ
@@ -113,6 +117,10 @@ unfoldable pub released : Card → ℕ → ℕ → CardAfter
 released c size left =
     cond (eqb (releaseRefusal c size left) refusal.None) (givesCard refusal.None (ended c left))
     (givesCard (releaseRefusal c size left) c)
+
+-- whether the release is not refused and the message accepted
+unfoldable pub releaseAccepts : Card → ℕ → ℕ → Bool
+releaseAccepts c size left = eqb (releaseRefusal c size left) refusal.None && isAccepted c left
 
 -- the lent memory after release; nothing else changes it
 unfoldable pub memoryAfter : Card → List ℕ → ℕ → List ℕ

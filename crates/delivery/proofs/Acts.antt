@@ -32,8 +32,8 @@ use Rattle.delivery.specs.Delivery.{Kept}
 use Rattle.delivery.specs.Play.{ModuleCall, settings}
 use Rattle.delivery.proofs.Accept.{Whole, whole, accepts, Sendable}
 use Rattle.delivery.proofs.Ended.{Passes, Ended, Ignored, Refused, Taken, built-long, card-held, memory-held}
-use Rattle.delivery.proofs.Kept.{kept-self, kept-trans, Shut}
-use Rattle.delivery.proofs.Settings.{afterCalls, calls-aside, set-shut, calls-kept, set-closed}
+use Rattle.delivery.proofs.Kept.{kept-self, kept-trans, kept-either, Shut}
+use Rattle.delivery.proofs.Settings.{afterCalls, Aside, set-shut, calls-kept, set-closed}
 
 -- ---- a payload that is not looked at does not matter
 
@@ -152,15 +152,15 @@ module _ (t : Command) (block : List ℕ) (s : Sendable t (payload t block)) whe
 
 -- ---- acted once, by the closed form
 
-pub record Took (c : Card) (memory : List ℕ) (t : Command) (block : List ℕ) (c′ : Card) (memory′ : List ℕ) : Type 0 where
+pub record Took (alone : Bool) (c : Card) (memory : List ℕ) (t : Command) (block : List ℕ) (c′ : Card) (memory′ : List ℕ) : Type 0 where
   pub passed : Passes t c
-  pub card : Kept (cardActed c (message t block)) c′
+  pub card : Kept alone (cardActed c (message t block)) c′
   pub stores : memory′ ≡ memoryActed c memory (message t block)
 
 module _ (t : Command) (block : List ℕ) (s : Sendable t (payload t block)) {c : Card} {memory : List ℕ} {c′ : Card} {memory′ : List ℕ} where
   pub took-as : (ws : List ℕ) → Passes t c → (isChecked (t .code) ≡ true → ws ≡ payload t block)
       → c′ ≡ cardActed c (commandFirst t ∷ commandSecond t ∷ ws) → memory′ ≡ memoryActed c memory (commandFirst t ∷ commandSecond t ∷ ws)
-      → Took c memory t block c′ memory′
+      → Took true c memory t block c′ memory′
   unfolding acted
   took-as ws j like p q =
       record {
@@ -171,14 +171,14 @@ module _ (t : Command) (block : List ℕ) (s : Sendable t (payload t block)) {c 
 
   -- a damaged command has not acted, or acted once
   pub ended-took : c .port .message ≡ emptied false → {line : List Bool} → Ended t (payload t block) c memory line c′ memory′
-      → Still c memory c′ memory′ ⊎ Took c memory t block c′ memory′
+      → Still true c memory c′ memory′ ⊎ Took true c memory t block c′ memory′
   unfolding noted
   ended-took shut (Ignored e p q) = inl (rw p (kept-self c shut), q)
-  ended-took shut (Refused e p q) = inl (rw p (record { size = refl; bases = refl; time = refl; stf = refl; module-state = refl; closed = refl }), q)
+  ended-took shut (Refused e p q) = inl (rw p (record { size = refl; bases = refl; closed = refl; time = λ e. refl; stf = λ e. refl; module-state = λ e. refl }), q)
   ended-took shut (Taken ws j like p q) = inr (took-as ws j like p q)
 
   -- in the words of the specification
-  pub took-acted : Idle c memory → Took c memory t block c′ memory′ → Acted c memory t block c′ memory′
+  pub took-acted : {alone : Bool} → Idle c memory → Took alone c memory t block c′ memory′ → Acted alone c memory t block c′ memory′
   took-acted idle k =
       record {
         accepted = passes-accepts t block s c memory idle (k .passed);
@@ -186,7 +186,7 @@ module _ (t : Command) (block : List ℕ) (s : Sendable t (payload t block)) {c 
         stored = k .stores ∙ sym (memory-acts t block s c memory idle (k .passed));
       }
 
-  pub acted-took : Idle c memory → Acted c memory t block c′ memory′ → Took c memory t block c′ memory′
+  pub acted-took : {alone : Bool} → Idle c memory → Acted alone c memory t block c′ memory′ → Took alone c memory t block c′ memory′
   acted-took idle a =
       let ok : Passes t c = accepts-passes t block s c memory idle (a .accepted) in
       record {
@@ -198,27 +198,44 @@ module _ (t : Command) (block : List ℕ) (s : Sendable t (payload t block)) {c 
 -- ---- told of the card before, of which nothing but status and last token was changed since, and of the card afterwards
 
 module _ (t : Command) (block : List ℕ) where
-  acted-moved : (c c₁ : Card) → Kept c c₁ → cardActed c₁ (message t block) ≡ cardActed c (message t block)
+  -- what a command makes of a card depends on that card, size by size and base by base
+  acted-kept : {alone : Bool} (c c₁ : Card) → Kept alone c c₁ → Kept alone (cardActed c (message t block)) (cardActed c₁ (message t block))
   unfolding acted holding
-  acted-moved c c₁ k = rw (k .size, k .time, k .bases, k .stf, k .module-state)
+  acted-kept c c₁ k =
+      record {
+        size = k .size;
+        bases = rw (k .bases);
+        closed = refl;
+        time = λ e. rw (k .time e);
+        stf = k .stf;
+        module-state = k .module-state;
+      }
 
-  stored-moved : (c c₁ : Card) (memory : List ℕ) → c₁ .bases ≡ c .bases → memoryActed c₁ memory (message t block) ≡ memoryActed c memory (message t block)
+  pub acted-aside : {c c₁ : Card} → Aside c c₁ → Aside (cardActed c (message t block)) (cardActed c₁ (message t block))
+  unfolding acted holding
+  acted-aside k = record { size = k .size; bases = rw (k .bases); port = refl }
+
+  pub stored-moved : (c c₁ : Card) (memory : List ℕ) → c₁ .bases ≡ c .bases → memoryActed c₁ memory (message t block) ≡ memoryActed c memory (message t block)
   unfolding memoryActed stored holding
   stored-moved c c₁ memory e = rw e
 
-  pub took-moved : (c c₁ : Card) (memory memory₁ : List ℕ) {c′ : Card} {memory′ : List ℕ} → Still c memory c₁ memory₁
-      → Took c₁ memory₁ t block c′ memory′ → Took c memory t block c′ memory′
-  took-moved c c₁ memory memory₁ (k, m) a =
+  pub took-moved : {alone : Bool} (c c₁ : Card) (memory memory₁ : List ℕ) {c′ : Card} {memory′ : List ℕ} → Still alone c memory c₁ memory₁
+      → Took alone c₁ memory₁ t block c′ memory′ → Took alone c memory t block c′ memory′
+  took-moved c c₁ memory memory₁ {c′} (k, m) a =
       record {
         passed = rw (k .size, k .bases) at (a .passed);
-        card = rw (acted-moved c c₁ k) at (a .card);
+        card = kept-trans (cardActed c (message t block)) (cardActed c₁ (message t block)) c′ (acted-kept c c₁ k) (a .card);
         stores = a .stores ∙ ap (λ (x : List ℕ). memoryActed c₁ x (message t block)) m ∙ stored-moved c c₁ memory (k .bases);
       }
 
-  pub took-later : {c : Card} {memory : List ℕ} (c′ c″ : Card) (memory′ memory″ : List ℕ) → Still c′ memory′ c″ memory″
-      → Took c memory t block c′ memory′ → Took c memory t block c″ memory″
-  took-later {c} {memory} c′ c″ memory′ memory″ (k, m) a =
+  pub took-later : {alone : Bool} {c : Card} {memory : List ℕ} (c′ c″ : Card) (memory′ memory″ : List ℕ) → Still alone c′ memory′ c″ memory″
+      → Took alone c memory t block c′ memory′ → Took alone c memory t block c″ memory″
+  took-later {alone} {c} c′ c″ memory′ memory″ (k, m) a =
       record { passed = a .passed; card = kept-trans (cardActed c (message t block)) c′ c″ (a .card) k; stores = m ∙ a .stores }
+
+  pub took-either : (alone : Bool) {c : Card} {memory : List ℕ} {c′ : Card} {memory′ : List ℕ}
+      → Took true c memory t block c′ memory′ → Took alone c memory t block c′ memory′
+  took-either alone a = record { passed = a .passed; card = kept-either alone (a .card); stores = a .stores }
 
   -- ---- the device's calls behind a command could as well come before it
 
@@ -242,12 +259,6 @@ module _ (t : Command) (block : List ℕ) where
   calls-acted s [] = refl
   calls-acted s (m ∷ calls) = ap (afterCalls calls) (set-acted s (m .stf) (m .state)) ∙ calls-acted (set-shut s (m .stf) (m .state)) calls
 
-  pub took-called : {c : Card} {memory : List ℕ} {c′ : Card} {memory′ : List ℕ} → Shut c → (calls : List ModuleCall)
-      → Took c memory t block c′ memory′ → Took (afterCalls calls c) memory t block (afterCalls calls c′) memory′
-  took-called {c} {memory} s calls a =
-      let aside = calls-aside calls c in
-      record {
-        passed = rw (aside .size, aside .bases) (a .passed);
-        card = rw (← calls-acted s calls) (calls-kept (acted-shut s) (a .card) calls);
-        stores = a .stores ∙ sym (stored-moved c (afterCalls calls c) memory (aside .bases));
-      }
+  pub acted-called : {c c′ : Card} → Shut c → (calls : List ModuleCall)
+      → Kept true (cardActed c (message t block)) c′ → Kept true (cardActed (afterCalls calls c) (message t block)) (afterCalls calls c′)
+  acted-called s calls k = rw (← calls-acted s calls) (calls-kept (acted-shut s) k calls)

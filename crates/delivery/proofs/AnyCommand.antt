@@ -1,94 +1,102 @@
--- Demand 3 for any command in the middle, for the card alone, word by word.
+-- Demand 3 for any command in the middle, for every side that hears its messages as a card alone does.
 -- Assumes nothing.
 use Prim.Native.Nat.{ℕ, _+_}
-use mathlib.Core.Path.{_≡_, refl, sym, ap, ap₂, _∙_}
+use native.Mathlib.Omega.{arith}
+use mathlib.Core.Path.{_≡_, refl, sym, ap, _∙_, subst}
 use mathlib.Core.Bool.{Bool, true, false, cond}
 use mathlib.Core.Logic.{_⊎_, inl, inr, ⊎-elim}
 use mathlib.Core.List.{List, [], _++_}
 use lib.Dec.{eqb}
 use lib.ListN.{length}
 use Rattle.bits.specs.Lines.{words}
-use Rattle.link.specs.Damage.{Damage}
+use Rattle.link.specs.Damage.{Damage, undamaged}
 use Rattle.rules.specs.Rules.{messageWords}
 use Rattle.token.specs.Command.{commandToken}
 use Rattle.token.specs.Response.{clean}
 use Rattle.token.specs.declared.command.Command.{Command}
 use Rattle.judge.proofs.Laws.{never}
-use Rattle.card.specs.Run.{Run}
 use Rattle.card.specs.State.{emptied}
-use Rattle.card.specs.Whole.{heard}
 use Rattle.card.specs.declared.Card.{Card}
 use Rattle.card.specs.declared.Message.{Message}
 use Rattle.card.specs.declared.Port.{Port}
 use Rattle.card.proofs.Holding.{Idle}
-use Rattle.card.proofs.Sound.{run-sound}
 use Rattle.controller.specs.Builder.{payload}
 use Rattle.controller.specs.Sure.{readbackCommand, commandAt, passes, confirms, turnAfter}
-use Rattle.delivery.specs.AnyCommand.{Fate, Fates, Course, lineOf, leg, legs, sureCommand, EndsDone, EndsUnsure, Acted, Still, Sends, AnyCommand, NoDamage, AnyUndamaged}
-use Rattle.delivery.specs.Delivery.{inWords, Kept}
+use Rattle.delivery.specs.AnyCommand.{Fates, Course, leg, legs, sureCommand, EndsDone, EndsUnsure, Acted, Still, called, Means, Sends, AnyCommand, NoDamage, AnyUndamaged}
+use Rattle.delivery.specs.Delivery.{Side, Kept}
 use Rattle.delivery.specs.Play.{ModuleCall, Crossed}
 use Rattle.delivery.proofs.Accept.{Sendable}
-use Rattle.delivery.proofs.Acts.{Took, took-acted, took-moved, took-later, took-called, accepts-passes}
+use Rattle.delivery.proofs.Acts.{Took, took-acted, took-moved, took-later, took-either, accepts-passes}
 use Rattle.delivery.proofs.Command.{command-done}
 use Rattle.delivery.proofs.Effects.{sent-took, undamaged-works, readback-sendable, readback-still}
-use Rattle.delivery.proofs.Ended.{Passes, sent, sent-quiet, crossed-idle, run-sent}
-use Rattle.delivery.proofs.Kept.{kept-trans, idle-shut}
+use Rattle.delivery.proofs.Ended.{Passes, sent}
+use Rattle.delivery.proofs.Kept.{kept-trans, kept-either, like-kept}
 use Rattle.delivery.proofs.Readbacks.{readBack, undamaged-passes, undamaged-confirms}
-use Rattle.delivery.proofs.Sending.{can-send, sends-idle}
-use Rattle.delivery.proofs.Settings.{deviceSets, afterCalls, settings-append, calls-aside, calls-idle, calls-kept}
-use Rattle.delivery.proofs.SideLaws.{lawful-in-words, settings-runs}
+use Rattle.delivery.proofs.Sending.{can-send, sends-idle, calls-idle}
+use Rattle.delivery.proofs.SideLaws.{Starts, called-aside, later-kept, took-called}
+use Rattle.delivery.proofs.Sides.{Follows, Ready, Leg, leg-meets}
 use Rattle.delivery.proofs.Told.{told}
 
--- ---- one message
+module _ (side : Side) (w : Follows side) where
+  abbrev C : Type 0
+  C = Course (side .State)
 
--- a command sent leaves an idle card
-sent-idle : (t : Command) (block : List ℕ) (d : Damage) (c : Card) (memory : List ℕ) → Idle c memory
-    → Idle (sent t block d c memory .side) (sent t block d c memory .memory)
-unfolding sent
-sent-idle t block d c memory idle = crossed-idle c memory idle d (lineOf t block)
+  -- ---- one message, told of the card that the side has
 
-module _ (t : Command) (f : Fate) (c : Card) (memory : List ℕ) (idle : Idle c memory) (calls : List ModuleCall) where
-  abbrev at : ℕ → Course Card
-  at turn = record { turn = turn; side = c; memory = memory; calls = calls; refused = [] }
+  -- what a message leaves of the card that it found, it leaves of the side's own
+  module _ {t k : Command} {block : List ℕ} {f : _} {g g′ : C} (l : Leg side w t k block f g g′) where
+    abbrev sent-here : Crossed Card
+    sent-here = sent k block (f .damage) (l .found) (g .memory)
 
-  -- the card when the message is sent
-  abbrev then : Card
-  then = afterCalls (f .calls) c
+    found-closed : l .found .port .message ≡ emptied false
+    found-closed = l .idle .closed
 
-  abbrev crosses : ℕ → Crossed Card → Course Card
-  crosses turn there = record { turn = turn; side = there .side; memory = there .memory; calls = calls ++ f .calls; refused = [] }
+    -- the card found is the one that the device's calls left
+    found-kept : Kept (side .alone) (called side (g .side) (f .calls)) (l .found)
+    found-kept = like-kept (l .like) (sym (ap (λ (p : Port). p .message) (l .like .port)) ∙ found-closed)
 
-  leg-at : (turn : ℕ) (k : Command) (block : List ℕ) → commandAt t turn ≡ k → Sendable k (payload k block)
-      → leg heard deviceSets t block f (at turn)
-      ≡ crosses (turnAfter t (turn + 1) (words (messageWords (k .length)) (sent k block (f .damage) then memory .got))) (sent k block (f .damage) then memory)
-  unfolding leg sent
-  leg-at turn k block is s = rw (is, sent-quiet k block s then memory (calls-idle c memory idle (f .calls)) (f .damage))
+    found-still : Still (side .alone) (called side (g .side) (f .calls)) (g .memory) (l .found) (g .memory)
+    found-still = (found-kept, refl)
 
-  leg-first : leg heard deviceSets t [] f (at 0)
-      ≡ crosses (cond (passes (words 5 (readBack (f .damage) then memory .got))) 2 7) (readBack (f .damage) then memory)
-  unfolding commandAt turnAfter messageWords
-  leg-first = leg-at 0 readbackCommand [] refl readback-sendable
+    after-kept : Kept (side .alone) (sent-here .side) (side .card (g′ .side))
+    after-kept = like-kept (l .after) (sym (ap (λ (p : Port). p .message) (l .after .port)) ∙ l .ready .idle .closed)
 
-  leg-middle : (block : List ℕ) → Sendable t (payload t block) → leg heard deviceSets t block f (at 2) ≡ crosses 4 (sent t block (f .damage) then memory)
-  unfolding commandAt turnAfter
-  leg-middle block s = leg-at 2 t block refl s
+    after-still : Still (side .alone) (sent-here .side) (sent-here .memory) (side .card (g′ .side)) (g′ .memory)
+    after-still = (after-kept, l .memory-is)
 
-  leg-last : leg heard deviceSets t [] f (at 4)
-      ≡ crosses (cond (confirms t (words 5 (readBack (f .damage) then memory .got))) 6 7) (readBack (f .damage) then memory)
-  unfolding commandAt turnAfter messageWords
-  leg-last = leg-at 4 readbackCommand [] refl readback-sendable
+    -- it did not act
+    left-still : Still true (l .found) (g .memory) (sent-here .side) (sent-here .memory)
+        → Still (side .alone) (called side (g .side) (f .calls)) (g .memory) (side .card (g′ .side)) (g′ .memory)
+    left-still (k, m) = (
+      kept-trans _ _ _ found-kept (kept-trans _ _ _ (kept-either (side .alone) k) after-kept),
+      l .memory-is ∙ m,
+    )
 
--- ---- three messages
+    -- it acted
+    left-took : Took true (l .found) (g .memory) k block (sent-here .side) (sent-here .memory)
+        → Took (side .alone) (called side (g .side) (f .calls)) (g .memory) k block (side .card (g′ .side)) (g′ .memory)
+    left-took a =
+        took-moved k block _ (l .found) (g .memory) (g .memory) found-still
+        (took-later k block (sent-here .side) _ (sent-here .memory) _ after-still (took-either k block (side .alone) a))
 
-module _ {c : Card} {memory : List ℕ} {t : Command} {block : List ℕ} (p : Sends inWords c memory t block) where
-  idle : Idle c memory
-  idle = sends-idle inWords lawful-in-words p
+  -- ---- three messages
 
-  sendable : Sendable t (payload t block)
-  sendable = can-send inWords lawful-in-words p
+  module _ {s : side .State} {memory : List ℕ} {t : Command} {block : List ℕ} (p : Sends side s memory t block) (f : Fates) where
+    sendable : Sendable t (payload t block)
+    sendable = can-send side (w .lawful) p
 
-  module _ (f : Fates) where
-    -- the device's calls before each message
+    start : C
+    start = record { turn = 0; side = s; memory = memory; calls = []; refused = [] }
+
+    first : C
+    first = leg (side .hears) (side .sets) t [] (f .first) start
+
+    second : C
+    second = leg (side .hears) (side .sets) t block (f .second) first
+
+    third : C
+    third = leg (side .hears) (side .sets) t [] (f .third) second
+
     abbrev calls₁ : List ModuleCall
     calls₁ = f .first .calls
 
@@ -98,200 +106,198 @@ module _ {c : Card} {memory : List ℕ} {t : Command} {block : List ℕ} (p : Se
     abbrev calls₃ : List ModuleCall
     calls₃ = f .third .calls
 
-    -- the card before each message, each message, and the card that the device's calls alone would have left
-    abbrev c₁ : Card
-    c₁ = afterCalls calls₁ c
+    -- the first READBACK
+    first-leg : Leg side w t readbackCommand [] (f .first) start first
+    unfolding start first commandAt
+    first-leg = leg-meets side w t [] (f .first) start (record { run = p .run; idle = sends-idle side (w .lawful) p }) readbackCommand refl readback-sendable
 
-    c₁-idle : Idle c₁ memory
-    c₁-idle = calls-idle c memory idle calls₁
+    first-got : List ℕ
+    first-got = words 5 (readBack (f .first .damage) (first-leg .found) memory .got)
 
-    abbrev first : Crossed Card
-    first = readBack (f .first .damage) c₁ memory
+    first-turn : first .turn ≡ cond (passes first-got) 2 7
+    unfolding start turnAfter messageWords first-got
+    first-turn = first-leg .turn-is
 
-    first-still : Still c₁ memory (first .side) (first .memory)
-    first-still = readback-still c₁ memory c₁-idle (f .first .damage)
+    first-still : Still (side .alone) (called side s calls₁) memory (side .card (first .side)) (first .memory)
+    unfolding start
+    first-still = left-still first-leg (readback-still (first-leg .found) memory (first-leg .idle) (f .first .damage))
 
-    first-idle : Idle (first .side) (first .memory)
-    first-idle = sent-idle readbackCommand [] (f .first .damage) c₁ memory c₁-idle
+    -- where it passes, the command
+    module _ (passed : first .turn ≡ 2) where
+      second-leg : Leg side w t t block (f .second) first second
+      unfolding second commandAt
+      second-leg = leg-meets side w t block (f .second) first (first-leg .ready) t (ap (commandAt t) passed) sendable
 
-    abbrev c₂ : Card
-    c₂ = afterCalls calls₂ (first .side)
+      second-turn : second .turn ≡ 4
+      unfolding turnAfter
+      second-turn = second-leg .turn-is ∙ rw passed
 
-    c₂-idle : Idle c₂ (first .memory)
-    c₂-idle = calls-idle (first .side) (first .memory) first-idle calls₂
+      -- and the last READBACK
+      third-leg : Leg side w t readbackCommand [] (f .third) second third
+      unfolding third commandAt
+      third-leg = leg-meets side w t [] (f .third) second (second-leg .ready) readbackCommand (ap (commandAt t) second-turn) readback-sendable
 
-    abbrev called₂ : Card
-    called₂ = afterCalls (calls₁ ++ calls₂) c
+      last-got : List ℕ
+      last-got = words 5 (readBack (f .third .damage) (third-leg .found) (second .memory) .got)
 
-    called₂-idle : Idle called₂ memory
-    called₂-idle = calls-idle c memory idle (calls₁ ++ calls₂)
+      third-turn : third .turn ≡ cond (confirms t last-got) 6 7
+      unfolding turnAfter messageWords last-got
+      third-turn = third-leg .turn-is ∙ rw second-turn
 
-    still₂ : Still called₂ memory c₂ (first .memory)
-    still₂ = (
-      rw (settings-append deviceSets calls₁ calls₂ c) (calls-kept (idle-shut c₁-idle) (first-still .0) calls₂),
-      first-still .1,
-    )
+      starts-first : Starts side s (first .side)
+      starts-first = record { run = p .run; idle = p .idle; run-later = first-leg .ready .run }
 
-    abbrev second : Crossed Card
-    second = sent t block (f .second .damage) c₂ (first .memory)
+      starts-second : Starts side s (second .side)
+      starts-second = record { run = p .run; idle = p .idle; run-later = second-leg .ready .run }
 
-    second-idle : Idle (second .side) (second .memory)
-    second-idle = sent-idle t block (f .second .damage) c₂ (first .memory) c₂-idle
+      third-still : Still (side .alone) (called side (second .side) calls₃) (second .memory) (side .card (third .side)) (third .memory)
+      third-still = left-still third-leg (readback-still (third-leg .found) (second .memory) (third-leg .idle) (f .third .damage))
 
-    abbrev c₃ : Card
-    c₃ = afterCalls calls₃ (second .side)
+      -- the card that the device's calls alone would have left, before the command
+      still-then : Still (side .alone) (called side s (calls₁ ++ calls₂)) memory (called side (first .side) calls₂) (first .memory)
+      still-then = (later-kept side (w .lawful) starts-first calls₁ calls₂ (first-still .0), first-still .1)
 
-    c₃-idle : Idle c₃ (second .memory)
-    c₃-idle = calls-idle (second .side) (second .memory) second-idle calls₃
+      -- a command that acted, or did not act, told of that card and of the card in the end
+      in-the-end : Took true (second-leg .found) (first .memory) t block (sent t block (f .second .damage) (second-leg .found) (first .memory) .side)
+          (sent t block (f .second .damage) (second-leg .found) (first .memory) .memory)
+          → Acted (side .alone) (called side s (calls₁ ++ calls₂ ++ calls₃)) memory t block (side .card (third .side)) (third .memory)
+      in-the-end a =
+          let moved = took-moved t block _ _ memory (first .memory) still-then (left-took second-leg a) in
+          let late = took-called side (w .lawful) t block starts-second (calls₁ ++ calls₂) calls₃ moved in
+          took-acted t block sendable (calls-idle side (w .lawful) p (calls₁ ++ calls₂ ++ calls₃))
+          (took-later t block _ (side .card (third .side)) (second .memory) (third .memory) third-still late)
 
-    abbrev called₃ : Card
-    called₃ = afterCalls (calls₁ ++ calls₂ ++ calls₃) c
+      still-in-the-end : Still true (second-leg .found) (first .memory) (sent t block (f .second .damage) (second-leg .found) (first .memory) .side)
+          (sent t block (f .second .damage) (second-leg .found) (first .memory) .memory)
+          → Still (side .alone) (called side s (calls₁ ++ calls₂ ++ calls₃)) memory (side .card (third .side)) (third .memory)
+      still-in-the-end e =
+          let (k, m) = left-still second-leg e in
+          let so-far : Kept (side .alone) (called side s (calls₁ ++ calls₂)) (side .card (second .side)) = kept-trans _ _ _ (still-then .0) k in (
+            kept-trans _ _ _ (later-kept side (w .lawful) starts-second (calls₁ ++ calls₂) calls₃ so-far) (third-still .0),
+            third-still .1 ∙ m ∙ first-still .1,
+          )
 
-    called-then : called₃ ≡ afterCalls calls₃ called₂
-    called-then = settings-append deviceSets (calls₁ ++ calls₂) calls₃ c
+      -- both READBACKs say Done, so the command acted once
+      done-acted : passes first-got ≡ true → confirms t last-got ≡ true
+          → Acted (side .alone) (called side s (calls₁ ++ calls₂ ++ calls₃)) memory t block (side .card (third .side)) (third .memory)
+      unfolding first-got last-got start
+      done-acted x y =
+          in-the-end (command-done (first-leg .found) (second-leg .found) (third-leg .found) memory (first .memory) (second .memory) t block sendable
+          (told t (p .fits) (p .other)) (f .first .damage) (f .second .damage) (f .third .damage)
+          (first-leg .idle) (second-leg .idle) (third-leg .idle)
+          (second-leg .like .port ∙ called-aside side (w .lawful) (first-leg .ready .run) calls₂ .port ∙ first-leg .after .port)
+          (third-leg .like .port ∙ called-aside side (w .lawful) (second-leg .ready .run) calls₃ .port ∙ second-leg .after .port)
+          x y)
 
-    abbrev third : Crossed Card
-    third = readBack (f .third .damage) c₃ (second .memory)
+      either-end : Still (side .alone) (called side s (calls₁ ++ calls₂ ++ calls₃)) memory (side .card (third .side)) (third .memory)
+          ⊎ Acted (side .alone) (called side s (calls₁ ++ calls₂ ++ calls₃)) memory t block (side .card (third .side)) (third .memory)
+      either-end =
+          ⊎-elim (λ e. inl (still-in-the-end e)) (λ a. inr (in-the-end a))
+          (sent-took t block sendable (second-leg .found) (first .memory) (second-leg .idle) (f .second .damage))
 
-    third-still : Still c₃ (second .memory) (third .side) (third .memory)
-    third-still = readback-still c₃ (second .memory) c₃-idle (f .third .damage)
+      -- ---- all three
 
-    third-idle : Idle (third .side) (third .memory)
-    third-idle = sent-idle readbackCommand [] (f .third .damage) c₃ (second .memory) c₃-idle
+      third-means : Means side s memory t block third
+      unfolding emptied start first second third leg
+      third-means = go (confirms t last-got) refl third-turn
+        where
+          go : (b : Bool) → confirms t last-got ≡ b → third .turn ≡ cond b 6 7 → Means side s memory t block third
+          go b y is = record {
+            done = λ v. done-acted passed-first (sure b y is v);
+            unsure = λ v. either-end;
+            ends = ends b is;
+            unrefused = third-leg .quiet ∙ second-leg .quiet ∙ first-leg .quiet;
+            runs = third-leg .ready .run;
+            closed = ap (λ (m : Message). m .opened) (third-leg .ready .idle .closed);
+            lent = third-leg .ready .idle .lent;
+          }
+            where
+              passed-first : passes first-got ≡ true
+              passed-first = two (passes first-got) refl (sym first-turn ∙ passed)
+                where
+                  two : (a : Bool) → passes first-got ≡ a → (let m : ℕ = cond a 2 7 in m ≡ 2) → passes first-got ≡ true
+                  two true e h = e
+                  two false e h = absurd (omega arith)
 
-    -- a command that acted, or did not act, told of that card, and of the card and memory in the end
-    in-the-end : Took c₂ (first .memory) t block (second .side) (second .memory) → Acted called₃ memory t block (third .side) (third .memory)
-    in-the-end a =
-        let moved : Took called₂ memory t block (second .side) (second .memory) = took-moved t block called₂ c₂ memory (first .memory) still₂ a in
-        let late : Took (afterCalls calls₃ called₂) memory t block c₃ (second .memory) = took-called t block (idle-shut called₂-idle) calls₃ moved in
-        took-acted t block sendable (calls-idle c memory idle (calls₁ ++ calls₂ ++ calls₃))
-        (rw called-then (took-later t block c₃ (third .side) (second .memory) (third .memory) third-still late))
+              sure : (b : Bool) → confirms t last-got ≡ b → third .turn ≡ cond b 6 7 → EndsDone third → confirms t last-got ≡ true
+              sure true y is v = y
+              sure false y is v = never (sym v ∙ ap (λ (n : ℕ). eqb n 6) is)
 
-    still-in-the-end : Still c₂ (first .memory) (second .side) (second .memory) → Still called₃ memory (third .side) (third .memory)
-    still-in-the-end (k, m) =
-        let so-far : Kept called₂ (second .side) = kept-trans called₂ c₂ (second .side) (still₂ .0) k in (
-          rw called-then (kept-trans (afterCalls calls₃ called₂) c₃ (third .side) (calls-kept (idle-shut called₂-idle) so-far calls₃) (third-still .0)),
-          third-still .1 ∙ m ∙ first-still .1,
-        )
+              ends : (b : Bool) → third .turn ≡ cond b 6 7 → EndsDone third ⊎ EndsUnsure third
+              ends true is = inl (ap (λ (n : ℕ). eqb n 6) is)
+              ends false is = inr (ap (λ (n : ℕ). eqb n 7) is)
 
-    passed-first : Bool
-    passed-first = passes (words 5 (first .got))
+    -- ---- a first READBACK that does not pass
 
-    confirmed-last : Bool
-    confirmed-last = confirms t (words 5 (third .got))
+    first-means : first .turn ≡ 7 → Means side s memory t block first
+    unfolding emptied start first leg
+    first-means seven = record {
+      done = λ v. never (sym v ∙ ap (λ (n : ℕ). eqb n 6) seven);
+      unsure = λ v. inl first-still;
+      ends = inr (ap (λ (n : ℕ). eqb n 7) seven);
+      unrefused = first-leg .quiet;
+      runs = first-leg .ready .run;
+      closed = ap (λ (m : Message). m .opened) (first-leg .ready .idle .closed);
+      lent = first-leg .ready .idle .lent;
+    }
 
-    -- ---- the two ends: after the first message, or after all three
+    -- after the first message it is Unsure at once, or the others follow
+    abbrev ended-by : Bool → C
+    ended-by unsure = cond unsure first third
 
-    outcome : Bool → Bool → Course Card
-    outcome a b =
-        cond a (record { turn = cond b 6 7; side = third .side; memory = third .memory; calls = calls₁ ++ calls₂ ++ calls₃; refused = [] })
-        (record { turn = 7; side = first .side; memory = first .memory; calls = calls₁; refused = [] })
+    is-ended : sureCommand side s memory t block f ≡ ended-by (eqb (first .turn) 7)
+    unfolding legs start first second third
+    is-ended = refl
 
-    crossed-all : sureCommand inWords c memory t block f ≡ outcome passed-first confirmed-last
-    unfolding legs passed-first
-    crossed-all = rw (leg-first t (f .first) c memory idle []) (go passed-first)
+    means : Means side s memory t block (sureCommand side s memory t block f)
+    means = rw is-ended (go (passes first-got) first-turn)
       where
-        go : (a : Bool)
-            → (let g : Course Card = record { turn = cond a 2 7; side = first .side; memory = first .memory; calls = calls₁; refused = [] } in
-            cond (eqb (g .turn) 7) g (leg heard deviceSets t [] (f .third) (leg heard deviceSets t block (f .second) g)))
-            ≡ outcome a confirmed-last
-        go false = unfold outcome in refl
-        go true = unfold outcome confirmed-last in
-            (ap (leg heard deviceSets t [] (f .third)) (leg-middle t (f .second) (first .side) (first .memory) first-idle calls₁ block sendable)
-            ∙ leg-last t (f .third) (second .side) (second .memory) second-idle (calls₁ ++ calls₂))
-
-    -- ---- what it means
-
-    -- Done: both READBACKs said so, so the command acted once
-    done : (a b : Bool) → passed-first ≡ a → confirmed-last ≡ b → EndsDone (outcome a b)
-        → Acted (afterCalls (outcome a b .calls) c) memory t block (outcome a b .side) (outcome a b .memory)
-    unfolding outcome passed-first confirmed-last
-    done false b x y v = never (sym v)
-    done true false x y v = never (sym v)
-    done true true x y v =
-        in-the-end (command-done c₁ memory t block sendable (told t (p .fits) (p .other)) (f .first .damage) (f .second .damage) (f .third .damage) calls₂ calls₃
-        c₁-idle c₂-idle c₃-idle x y)
-
-    -- Unsure, and in fact any verdict
-    unsure : (a b : Bool) → Still (afterCalls (outcome a b .calls) c) memory (outcome a b .side) (outcome a b .memory)
-        ⊎ Acted (afterCalls (outcome a b .calls) c) memory t block (outcome a b .side) (outcome a b .memory)
-    unfolding outcome
-    unsure false b = inl first-still
-    unsure true b = ⊎-elim (λ s. inl (still-in-the-end s)) (λ a. inr (in-the-end a)) (sent-took t block sendable c₂ (first .memory) c₂-idle (f .second .damage))
-
-    ends : (a b : Bool) → EndsDone (outcome a b) ⊎ EndsUnsure (outcome a b)
-    unfolding outcome
-    ends false b = inr refl
-    ends true true = inl refl
-    ends true false = inr refl
-
-    unrefused : (a b : Bool) → outcome a b .refused ≡ []
-    unfolding outcome
-    unrefused false b = refl
-    unrefused true b = refl
-
-    runs-calls : {x : Card} → Run x → (calls : List ModuleCall) → Run (afterCalls calls x)
-    runs-calls = settings-runs inWords lawful-in-words
-
-    first-runs : Run (first .side)
-    first-runs = run-sent (runs-calls (p .run) calls₁) readbackCommand [] (f .first .damage) memory
-
-    runs : (a b : Bool) → Run (outcome a b .side)
-    unfolding outcome
-    runs false b = first-runs
-    runs true b =
-        let second-runs : Run (second .side) = run-sent (runs-calls first-runs calls₂) t block (f .second .damage) (first .memory) in
-        run-sent (runs-calls second-runs calls₃) readbackCommand [] (f .third .damage) (second .memory)
-
-    idle-after : (a b : Bool) → Idle (outcome a b .side) (outcome a b .memory)
-    unfolding outcome
-    idle-after false b = first-idle
-    idle-after true b = third-idle
+        go : (a : Bool) → first .turn ≡ cond a 2 7 → Means side s memory t block (ended-by (eqb (first .turn) 7))
+        go true e = subst (λ (b : Bool). Means side s memory t block (ended-by b)) (sym (ap (λ (n : ℕ). eqb n 7) e)) (third-means e)
+        go false e = subst (λ (b : Bool). Means side s memory t block (ended-by b)) (sym (ap (λ (n : ℕ). eqb n 7) e)) (first-means e)
 
     -- ---- without damage
 
-    module _ (ok : Passes t c) (none : NoDamage f) where
-      passed : passed-first ≡ true
-      unfolding passed-first
+    module _ (ok : Passes t (side .card s)) (none : NoDamage f) where
+      passed : passes first-got ≡ true
+      unfolding first-got start
       passed =
-          rw (none .first)
-          (undamaged-passes c₁ memory c₁-idle (rw (calls-aside calls₁ c .port) (run-sound (p .run) .last)))
+          let port : first-leg .found .port ≡ side .card s .port = first-leg .like .port ∙ called-aside side (w .lawful) (p .run) calls₁ .port in
+          ap (λ (d : Damage). passes (words 5 (readBack d (first-leg .found) memory .got))) (none .first)
+          ∙ undamaged-passes (first-leg .found) memory (first-leg .idle) (rw port (w .lawful .sound (p .run) .last))
+
+      two : first .turn ≡ 2
+      two = first-turn ∙ ap (λ (a : Bool). cond a 2 7) passed
 
       -- the command is accepted
-      accepted : (second .side .port .status ≡ clean) × (second .side .port .last ≡ commandToken t)
+      accepted : (side .card (second .side) .port .status ≡ clean) × (side .card (second .side) .port .last ≡ commandToken t)
       accepted =
-          let k : Kept called₂ c₂ = still₂ .0 in
-          let aside = calls-aside (calls₁ ++ calls₂) c in
-          rw (none .second)
-          (undamaged-works t block sendable c₂ (first .memory) c₂-idle (rw (k .size, k .bases, aside .size, aside .bases) ok))
+          let l = second-leg two in
+          let aside = called-aside side (w .lawful) (p .run) (calls₁ ++ calls₂) in
+          let k : Kept (side .alone) (called side s (calls₁ ++ calls₂)) (l .found) = kept-trans _ _ _ (still-then two .0) (found-kept l) in
+          let (status, last) = undamaged-works t block sendable (l .found) (first .memory) (l .idle) (rw (k .size, k .bases, aside .size, aside .bases) ok) in
+          let port : side .card (second .side) .port ≡ sent t block undamaged (l .found) (first .memory) .side .port
+          = l .after .port ∙ ap (λ (d : Damage). sent t block d (l .found) (first .memory) .side .port) (none .second) in
+          (ap (λ (x : Port). x .status) port ∙ status, ap (λ (x : Port). x .last) port ∙ last)
 
-      confirmed : confirmed-last ≡ true
-      unfolding confirmed-last
+      confirmed : confirms t (last-got two) ≡ true
+      unfolding last-got
       confirmed =
-          let same : c₃ .port ≡ second .side .port = calls-aside calls₃ (second .side) .port in
+          let l = third-leg two in
+          let port : l .found .port ≡ side .card (second .side) .port
+          = l .like .port ∙ called-aside side (w .lawful) (second-leg two .ready .run) calls₃ .port in
           let (status, last) = accepted in
-          rw (none .third)
-          (undamaged-confirms c₃ (second .memory) c₃-idle t (p .fits) (ap (λ (x : Port). x .status) same ∙ status) (ap (λ (x : Port). x .last) same ∙ last))
+          ap (λ (d : Damage). confirms t (words 5 (readBack d (l .found) (second .memory) .got))) (none .third)
+          ∙ undamaged-confirms (l .found) (second .memory) (l .idle) t (p .fits) (ap (λ (x : Port). x .status) port ∙ status) (ap (λ (x : Port). x .last) port ∙ last)
 
-      ends-done : EndsDone (sureCommand inWords c memory t block f)
-      unfolding outcome
-      ends-done = ap (λ (g : Course Card). eqb (g .turn) 6) (crossed-all ∙ ap₂ outcome passed confirmed)
+      ends-done : EndsDone (sureCommand side s memory t block f)
+      ends-done =
+          ap (λ (g : C). eqb (g .turn) 6) (is-ended ∙ ap (λ (n : ℕ). ended-by (eqb n 7)) two)
+          ∙ ap (λ (n : ℕ). eqb n 6) (third-turn two ∙ ap (λ (b : Bool). cond b 6 7) confirmed)
 
-pub any-command : AnyCommand inWords
-unfolding emptied
-any-command c memory t block p f =
-    let a : Bool = passed-first p f in
-    let b : Bool = confirmed-last p f in
-    let i = idle-after p f a b in
-    rw (crossed-all p f) (record {
-      done = done p f a b refl refl;
-      unsure = λ v. unsure p f a b;
-      ends = ends p f a b;
-      unrefused = unrefused p f a b;
-      runs = runs p f a b;
-      closed = ap (λ (m : Message). m .opened) (i .closed);
-      lent = i .lent;
-    })
+pub any-command : (side : Side) → Follows side → AnyCommand side
+any-command side w s memory t block p f = means side w p f
 
-pub any-undamaged : AnyUndamaged inWords
-any-undamaged c memory t block p ok f none = ends-done p f (accepts-passes t block (sendable p) c memory (idle p) ok) none
+pub any-undamaged : (side : Side) → Follows side → AnyUndamaged side
+any-undamaged side w s memory t block p ok f none =
+    ends-done side w p f (accepts-passes t block (sendable side w p f) (side .card s) memory (sends-idle side (w .lawful) p) ok) none

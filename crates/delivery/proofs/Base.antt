@@ -17,7 +17,7 @@ use Rattle.delivery.specs.Play.{ModuleCall}
 use Rattle.delivery.proofs.Acts.{Took}
 use Rattle.delivery.proofs.Effects.{base-acted, base-stored}
 use Rattle.delivery.proofs.Judged.{base-fits, base-passes}
-use Rattle.delivery.proofs.Kept.{kept-trans}
+use Rattle.delivery.proofs.Kept.{kept-trans, kept-either}
 use Rattle.delivery.proofs.Sending.{acted-then, passes-accepted}
 use Rattle.delivery.proofs.SideLaws.{Lawful}
 
@@ -42,14 +42,14 @@ module _ (side : Side) (l : Lawful side) (s : side .State) (memory : List ℕ) (
       }
 
   -- one that acted: the write base is this one, and the memory stays
-  module _ (calls : List ModuleCall) {c′ : Card} {memory′ : List ℕ} (a : Acted (called side s calls) memory baseCommand (baseBlock base) c′ memory′) where
-    took : Took (called side s calls) memory baseCommand (baseBlock base) c′ memory′
+  module _ (calls : List ModuleCall) {c′ : Card} {memory′ : List ℕ} (a : Acted (side .alone) (called side s calls) memory baseCommand (baseBlock base) c′ memory′) where
+    took : Took (side .alone) (called side s calls) memory baseCommand (baseBlock base) c′ memory′
     took = acted-then side l sends calls a
 
-    base-set : Kept (withBase base (called side s calls)) c′
+    base-set : Kept (side .alone) (withBase base (called side s calls)) c′
     base-set =
         kept-trans (withBase base (called side s calls)) (cardActed (called side s calls) (message baseCommand (baseBlock base))) c′
-        (base-acted base (called side s calls)) (took .card)
+        (kept-either (side .alone) (base-acted base (called side s calls))) (took .card)
 
     memory-stays : memory′ ≡ memory
     memory-stays = took .stores ∙ base-stored base (called side s calls) memory

@@ -3,7 +3,7 @@
 use Prim.Native.Nat.{ℕ, _*_, _+_, _/_, _%_, _≤_}
 use native.Mathlib.Omega.{arith}
 use mathlib.Core.Path.{_≡_, refl, ap, _∙_}
-use mathlib.Core.Bool.{Bool}
+use mathlib.Core.Bool.{Bool, true}
 use mathlib.Core.Logic.{_⊎_, inl, inr}
 use mathlib.Core.List.{List, []}
 use lib.Dec.{lit<}
@@ -40,8 +40,8 @@ use Rattle.delivery.proofs.Kept.{kept-trans}
 
 module _ (t : Command) (block : List ℕ) (s : Sendable t (payload t block)) (c : Card) (memory : List ℕ) (idle : Idle c memory) where
   -- whatever befalls it, it has not acted, or acted once
-  pub sent-took : (d : Damage) → Still c memory (sent t block d c memory .side) (sent t block d c memory .memory)
-      ⊎ Took c memory t block (sent t block d c memory .side) (sent t block d c memory .memory)
+  pub sent-took : (d : Damage) → Still true c memory (sent t block d c memory .side) (sent t block d c memory .memory)
+      ⊎ Took true c memory t block (sent t block d c memory .side) (sent t block d c memory .memory)
   sent-took d = ended-took t block s (idle .closed) (sent-ended t block s c memory idle d)
 
   -- without damage a command whose token passes is accepted: the status is clean, and its token is the last
@@ -62,20 +62,20 @@ abbrev pub readbackLine : List Bool
 readbackLine = stream 16 (message readbackCommand [])
 
 module _ (c : Card) (memory : List ℕ) (idle : Idle c memory) where
-  readback-acted : Kept c (cardActed c (message readbackCommand []))
+  readback-acted : Kept true c (cardActed c (message readbackCommand []))
   unfolding acted holding room message basesAfter timeAfter
   readback-acted =
-      rw (command-fields readbackCommand readback-fits) (record { size = refl; bases = refl; time = refl; stf = refl; module-state = refl; closed = refl })
+      rw (command-fields readbackCommand readback-fits) (record { size = refl; bases = refl; closed = refl; time = λ e. refl; stf = λ e. refl; module-state = λ e. refl })
 
   readback-stored : memoryActed c memory (message readbackCommand []) ≡ memory
   unfolding memoryActed holding room message
   readback-stored = rw (command-fields readbackCommand readback-fits)
 
   -- it changes nothing, damaged or not
-  pub readback-still : (d : Damage) → Still c memory (sent readbackCommand [] d c memory .side) (sent readbackCommand [] d c memory .memory)
+  pub readback-still : (d : Damage) → Still true c memory (sent readbackCommand [] d c memory .side) (sent readbackCommand [] d c memory .memory)
   readback-still d = go (sent-took readbackCommand [] readback-sendable c memory idle d)
     where
-      go : {c′ : Card} {memory′ : List ℕ} → Still c memory c′ memory′ ⊎ Took c memory readbackCommand [] c′ memory′ → Still c memory c′ memory′
+      go : {c′ : Card} {memory′ : List ℕ} → Still true c memory c′ memory′ ⊎ Took true c memory readbackCommand [] c′ memory′ → Still true c memory c′ memory′
       go (inl still) = still
       go {c′} (inr a) = (kept-trans c (cardActed c (message readbackCommand [])) c′ readback-acted (a .card), a .stores ∙ readback-stored)
 
@@ -85,11 +85,11 @@ module _ (sub : ℕ) (block : List ℕ) (n-fits : length block ≤ 63) (sub-fits
   abbrev w : Command
   w = writeOf (length block) sub
 
-  pub write-acted : Kept c (cardActed c (message w block))
+  pub write-acted : Kept true c (cardActed c (message w block))
   unfolding acted holding room message basesAfter timeAfter
   write-acted =
       rw (command-fields w (write-fits (length block) sub n-fits sub-fits))
-      (record { size = refl; bases = refl; time = refl; stf = refl; module-state = refl; closed = refl })
+      (record { size = refl; bases = refl; closed = refl; time = λ e. refl; stf = λ e. refl; module-state = λ e. refl })
 
   pub write-stored : (memory : List ℕ) → memoryActed c memory (message w block) ≡ written memory (target c sub) block
   unfolding memoryActed stored holding room message isReading
@@ -99,17 +99,17 @@ module _ (sub : ℕ) (block : List ℕ) (n-fits : length block ≤ 63) (sub-fits
 
 module _ (base : ℕ) (c : Card) where
   -- the write base is this one
-  pub base-acted : Kept (withBase base c) (cardActed c (message baseCommand (baseBlock base)))
+  pub base-acted : Kept true (withBase base c) (cardActed c (message baseCommand (baseBlock base)))
   unfolding acted holding room message payload isReading withCheckWord basesAfter timeAfter
   base-acted =
       let value : base / 65536 * 65536 + base % 65536 ≡ base = omega arith in
       rw (command-fields baseCommand base-fits) (record {
         size = refl;
         bases = ap (λ (n : ℕ). basesOf n (c .bases .«read_base»)) value;
-        time = refl;
-        stf = refl;
-        module-state = refl;
         closed = refl;
+        time = λ e. refl;
+        stf = λ e. refl;
+        module-state = λ e. refl;
       })
 
   -- and the memory stays

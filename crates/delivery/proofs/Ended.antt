@@ -130,7 +130,7 @@ module _ (t : Command) (block : List ℕ) (s : Sendable t (payload t block)) (c 
   sent-quiet (Cut k fill) = refusals-heard c memory idle (take k built)
   sent-quiet (Flipped i j) = refusals-heard c memory idle (flipped i built)
 
--- ---- after any message the card is idle again, and goes on running
+-- ---- after any message the card is idle again, and one that was run from power-up
 
 pub crossed-idle : (c : Card) (memory : List ℕ) → Idle c memory → (d : Damage) (line : List Bool)
     → Idle (crossed heard d c memory line .side) (crossed heard d c memory line .memory)
@@ -144,12 +144,6 @@ unfolding after
 run-after r memory [] = r
 run-after r memory (w ∷ ws) = run-after (word-run r memory w) memory ws
 
-run-heard : {c : Card} → Run c → (memory : List ℕ) (line : List Bool) → Run (cardAfterLine c memory line)
-unfolding cardAfterLine listened
+pub run-heard : {c : Card} → Run c → (memory : List ℕ) (line : List Bool) → Run (heard c memory line .side)
+unfolding heard cardAfterLine listened
 run-heard r memory line = Release (run-after (Select r) memory (wholeWords line)) (length memory) (bitsLeft line)
-
-pub run-sent : {c : Card} → Run c → (t : Command) (block : List ℕ) (d : Damage) (memory : List ℕ) → Run (sent t block d c memory .side)
-unfolding sent crossed heard
-run-sent r t block (Unseen fill) memory = r
-run-sent r t block (Cut k fill) memory = run-heard r memory _
-run-sent r t block (Flipped i j) memory = run-heard r memory _

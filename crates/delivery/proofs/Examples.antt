@@ -19,7 +19,7 @@ use Rattle.token.specs.Marks.{withCheck, checkRight, goodMarks}
 use Rattle.token.specs.Response.{responseFirst, responseSecond, responseMarks, goodResponse, responseFields, responseRead, anySet}
 use Rattle.judge.specs.Judge.{firstFailing, step1, lengthFits, subFits, subStatus, step2, wordPlace, isEven, inside, blockStatus, step3, tokenStatus, step4, isChecked, checkStatus, step5, endStatus, judgement}
 use Rattle.judge.specs.declared.Bases.{Bases}
-use Rattle.card.specs.Release.{basesAfter, timeAfter, silent, judged, acted, noted, ended, writes, stored, endedMemory, releaseRefusal, released, memoryAfter}
+use Rattle.card.specs.Release.{basesAfter, timeAfter, silent, judged, acted, noted, ended, isAccepted, writes, stored, endedMemory, releaseRefusal, released, memoryAfter}
 use Rattle.bits.specs.Buffers.{written}
 use Rattle.card.specs.Card.{powered, selected, moduleRefusal, moduleSet, wordRefusal}
 use Rattle.card.specs.Run as run
@@ -147,7 +147,7 @@ module _ (side : Side) (l : Lawful side) (sets : BaseSetting side) (sure : BaseU
   abbrev set : Course (side .State)
   set = sureCommand side s (1 ∷ 2 ∷ 3 ∷ 4 ∷ []) baseCommand (baseBlock 3) quiet
 
-  set-kept : Kept (withBase 3 (called side s (set .calls))) (side .card (set .side))
+  set-kept : Kept (side .alone) (withBase 3 (called side s (set .calls))) (side .card (set .side))
   set-kept = sets s (1 ∷ 2 ∷ 3 ∷ 4 ∷ []) 3 p quiet .done (sure s (1 ∷ 2 ∷ 3 ∷ 4 ∷ []) 3 p quiet none-damaged)
 
   met-odd : OddMet side
@@ -242,7 +242,7 @@ unfolding started-up buffers calls written-before based quiet readTurn end middl
     table rowIn ruleOf messageWords commandFirst commandUpper commandSecond commandFits commandMarks goodCommand commandFields
     withCheck checkRight goodMarks responseFirst responseSecond responseMarks goodResponse responseFields responseRead
     anySet firstFailing step1 lengthFits subFits subStatus step2 wordPlace isEven inside blockStatus step3 tokenStatus step4 isChecked checkStatus step5 endStatus judgement
-    basesAfter timeAfter written silent judged acted noted ended writes stored endedMemory
+    basesAfter timeAfter written silent judged acted noted ended isAccepted writes stored endedMemory
     selected wordRefusal exchanged releaseRefusal released memoryAfter readbackWord passedWord payloadWord nextWord told took withTold wordTold checkAfter taken
     powered emptied fresh sized outOfRange readRefusal tokenGood payloadGood fieldsRead answerRead
     isReading withCheckWord payload message blockFits buildRefusal bufferAfter

@@ -4,6 +4,7 @@ pub mod AnyCommand
 pub mod Base
 pub mod Built
 pub mod Command
+pub mod Demand3
 pub mod Effects
 pub mod Ended
 pub mod Examples

@@ -19,7 +19,7 @@ use Rattle.delivery.proofs.SideLaws.{Lawful, called-aside}
 
 -- what acts has passed step 3
 odd-never-acts : (side : Side) → Lawful side → (s : side .State) (memory : List ℕ) (t : Command) (block : List ℕ) → Sends side s memory t block
-    → ByOddBase (side .card s .bases) t → (calls : List ModuleCall) {c′ : Card} {memory′ : List ℕ} → Acted (called side s calls) memory t block c′ memory′ → ⊥
+    → ByOddBase (side .card s .bases) t → (calls : List ModuleCall) {c′ : Card} {memory′ : List ℕ} → Acted (side .alone) (called side s calls) memory t block c′ memory′ → ⊥
 odd-never-acts side l s memory t block p odd calls a =
     let c : Card = called side s calls in
     let three : anySet (step3 (c .size) (side .card s .bases) t) ≡ false =

@@ -6,6 +6,9 @@ use mathlib.Core.Bool.{Bool, true, false, cond}
 use mathlib.Core.List.{List, [], _∷_, _++_}
 use lib.Dec.{eqb, leb}
 use Rattle.rules.specs.Refusals as refusal
+use Rattle.judge.proofs.Laws.{never}
+use Rattle.judge.specs.declared.Bases.{Bases}
+use Rattle.card.specs.Release.{basesOf}
 use Rattle.card.specs.Card.{givesCard, moduleRefusal, moduleSet}
 use Rattle.card.specs.State.{emptied, withModule, outOfRange}
 use Rattle.card.specs.declared.Card.{Card}
@@ -35,27 +38,45 @@ unfolding settings
 settings-append sets [] more s = refl
 settings-append sets (m ∷ calls) more s = settings-append sets calls more (sets s (m .stf) (m .state))
 
--- ---- all but STF and module state
+-- ---- size, bases and port stay
 
 pub record Aside (c c′ : Card) : Type 0 where
   pub size : c′ .size ≡ c .size
   pub bases : c′ .bases ≡ c .bases
-  pub time : c′ .time ≡ c .time
   pub port : c′ .port ≡ c .port
 
-set-aside : (c : Card) (stf : Bool) (state : ℕ) → Aside c (moduleSet c stf state .card)
+pub aside-trans : {a b c : Card} → Aside a b → Aside b c → Aside a c
+aside-trans h g = record { size = g .size ∙ h .size; bases = g .bases ∙ h .bases; port = g .port ∙ h .port }
+
+-- with another write base in both
+pub aside-based : (base : ℕ) {a b : Card} → Aside a b → Aside (withBase base a) (withBase base b)
+aside-based base h = record { size = h .size; bases = ap (λ (b : Bases). basesOf base (b .«read_base»)) (h .bases); port = h .port }
+
+-- what is kept, where time, STF and module state do not count
+pub kept-aside : {a b c d : Card} → Aside a b → Aside c d → Kept false a c → Kept false b d
+kept-aside h g k =
+    record {
+      size = g .size ∙ k .size ∙ sym (h .size);
+      bases = g .bases ∙ k .bases ∙ sym (h .bases);
+      closed = ap (λ (p : Port). p .message) (g .port) ∙ k .closed;
+      time = λ e. never (sym e);
+      stf = λ e. never (sym e);
+      module-state = λ e. never (sym e);
+    }
+
+pub set-aside : (c : Card) (stf : Bool) (state : ℕ) → Aside c (moduleSet c stf state .card)
 set-aside c stf state =
     module-case (λ (a : CardAfter). Aside c (a .card)) c stf state
-    (λ n. record { size = refl; bases = refl; time = refl; port = refl })
-    (λ n. record { size = refl; bases = refl; time = refl; port = refl })
+    (λ n. record { size = refl; bases = refl; port = refl })
+    (λ n. record { size = refl; bases = refl; port = refl })
 
 pub calls-aside : (calls : List ModuleCall) (c : Card) → Aside c (afterCalls calls c)
 unfolding settings
-calls-aside [] c = record { size = refl; bases = refl; time = refl; port = refl }
+calls-aside [] c = record { size = refl; bases = refl; port = refl }
 calls-aside (m ∷ calls) c =
     let a = set-aside c (m .stf) (m .state) in
     let b = calls-aside calls (moduleSet c (m .stf) (m .state) .card) in
-    record { size = b .size ∙ a .size; bases = b .bases ∙ a .bases; time = b .time ∙ a .time; port = b .port ∙ a .port }
+    aside-trans a b
 
 pub set-shut : {c : Card} → Shut c → (stf : Bool) (state : ℕ) → Shut (moduleSet c stf state .card)
 set-shut {c} s stf state =
@@ -88,15 +109,15 @@ set-closed {c} s stf state = rw (set-number s state) (go (leb state 15))
     go true = refl
     go false = refl
 
-set-kept : {a b : Card} → Shut a → Kept a b → (stf : Bool) (state : ℕ) → Kept (moduleSet a stf state .card) (moduleSet b stf state .card)
+set-kept : {a b : Card} → Shut a → Kept true a b → (stf : Bool) (state : ℕ) → Kept true (moduleSet a stf state .card) (moduleSet b stf state .card)
 set-kept {a} {b} s k stf state =
     rw (set-closed s stf state, set-closed (kept-shut s k) stf state) (go (leb state 15))
   where
-    go : (t : Bool) → Kept (cond t (withModule a stf state) a) (cond t (withModule b stf state) b)
-    go true = record { size = k .size; bases = k .bases; time = k .time; stf = refl; module-state = refl; closed = k .closed }
+    go : (t : Bool) → Kept true (cond t (withModule a stf state) a) (cond t (withModule b stf state) b)
+    go true = record { size = k .size; bases = k .bases; closed = k .closed; time = k .time; stf = λ e. refl; module-state = λ e. refl }
     go false = k
 
-pub calls-kept : {a b : Card} → Shut a → Kept a b → (calls : List ModuleCall) → Kept (afterCalls calls a) (afterCalls calls b)
+pub calls-kept : {a b : Card} → Shut a → Kept true a b → (calls : List ModuleCall) → Kept true (afterCalls calls a) (afterCalls calls b)
 unfolding settings
 calls-kept s k [] = k
 calls-kept s k (m ∷ calls) = calls-kept (set-shut s (m .stf) (m .state)) (set-kept s k (m .stf) (m .state)) calls

@@ -1,204 +1,161 @@
--- A card's side that hears every message as its card does alone: what demand 3 says of the card alone, for any command in the middle, it says of
--- this side too.
+-- A card's side that hears every message as a card alone does: what a message, with any damage, makes of it.
 -- Assumes nothing.
 use Prim.Native.Nat.{ℕ, _+_}
-use mathlib.Core.Path.{_≡_, refl, sym, ap, _∙_, subst, subst₂}
-use mathlib.Core.Bool.{Bool, true, false, cond}
-use mathlib.Core.List.{List, [], _++_}
-use lib.Dec.{eqb}
+use mathlib.Core.Path.{_≡_, refl, sym, ap, _∙_}
+use mathlib.Core.Bool.{Bool}
+use mathlib.Core.List.{List, [], _++_, append-nil}
 use lib.ListN.{length, take}
 use Rattle.bits.specs.Lines.{words}
 use Rattle.rules.specs.Rules.{messageWords}
 use Rattle.token.specs.declared.command.Command.{Command}
 use Rattle.link.specs.Damage.{Damage, Unseen, Cut, Flipped, flipped, filled}
-use Rattle.card.specs.Whole.{heard}
+use Rattle.card.specs.Whole.{Heard, heard}
 use Rattle.card.specs.declared.Card.{Card}
-use Rattle.card.proofs.Closed.{through}
+use Rattle.card.specs.declared.Port.{Port}
 use Rattle.card.proofs.Holding.{Idle}
+use Rattle.card.proofs.Laws.{InRange}
+use Rattle.controller.specs.Builder.{payload}
 use Rattle.controller.specs.Sure.{commandAt, turnAfter}
-use Rattle.delivery.specs.AnyCommand.{Fate, Fates, Course, lineOf, leg, legs, sureCommand, Means, Sends, AnyCommand, AnyUndamaged}
-use Rattle.delivery.specs.Delivery.{Side, inWords}
-use Rattle.delivery.specs.Play.{Crossed, back, crossed, ModuleCall, settings}
-use Rattle.delivery.proofs.AnyCommand.{any-command, any-undamaged}
-use Rattle.delivery.proofs.Ended.{crossed-idle}
-use Rattle.delivery.proofs.Settings.{deviceSets, calls-idle}
-use Rattle.delivery.proofs.SideLaws.{Lawful, settings-runs, called-card, side-idle}
+use Rattle.delivery.specs.AnyCommand.{Fate, Course, lineOf, leg, called}
+use Rattle.delivery.specs.Delivery.{Side}
+use Rattle.delivery.specs.Play.{Crossed, back, crossed, settings}
+use Rattle.delivery.proofs.Accept.{Sendable}
+use Rattle.delivery.proofs.Ended.{sent, sent-quiet, crossed-idle}
+use Rattle.delivery.proofs.Kept.{Like, like-self}
+use Rattle.delivery.proofs.SideLaws.{Lawful, settings-runs, called-aside}
 
--- every state that was run from power-up hears a message as its card does, and has been run from power-up afterwards
+-- what a message made of a state is what it makes of a card like the state's own: the one that it found
+pub record Meets (side : Side) (s : side .State) (memory : List ℕ) (h : Heard (side .State)) (way : Card → Heard Card) : Type 0 where
+  pub found : Card
+  pub like : Like (side .alone) (side .card s) found
+  pub ranged : InRange found
+  pub after : Like (side .alone) (way found .side) (side .card (h .side))
+  pub memory-same : h .memory ≡ way found .memory
+  pub sent-same : h .sent ≡ way found .sent
+  pub refused-same : h .refused ≡ way found .refused
+  pub runs : side .Runs (h .side)
+
+-- every state that was run from power-up and has no message open hears every line so
 pub record Follows (side : Side) : Type 0 where
   pub lawful : Lawful side
-  pub same : (s : side .State) → side .Runs s → (memory : List ℕ) → Idle (side .card s) memory → (line : List Bool)
-      → through (side .card) (side .hears s memory line) ≡ heard (side .card s) memory line
-  pub runs-on : {s : side .State} → side .Runs s → (memory : List ℕ) (line : List Bool) → side .Runs (side .hears s memory line .side)
+  pub meets : (s : side .State) → side .Runs s → (memory : List ℕ) → Idle (side .card s) memory → (line : List Bool)
+      → Meets side s memory (side .hears s memory line) (λ c. heard c memory line)
 
 module _ (side : Side) (f : Follows side) where
   abbrev S : Type 0
   S = side .State
 
-  -- what the card's side is, told of the card in it
-  crossedCard : Crossed S → Crossed Card
-  crossedCard x = record { side = side .card (x .side); memory = x .memory; got = x .got; refused = x .refused }
-
-  courseCard : Course S → Course Card
-  courseCard g = record { turn = g .turn; side = side .card (g .side); memory = g .memory; calls = g .calls; refused = g .refused }
-
   -- run from power-up and idle: what is needed of a state before each message
-  record Ready (s : S) (memory : List ℕ) : Type 0 where
-    run : side .Runs s
-    idle : Idle (side .card s) memory
+  pub record Ready (s : S) (memory : List ℕ) : Type 0 where
+    pub run : side .Runs s
+    pub idle : Idle (side .card s) memory
 
-  -- ---- a line
+  -- ---- a line with its damage
 
-  module _ (s : S) (memory : List ℕ) (r : Ready s memory) (line : List Bool) where
-    crossed-same : (d : Damage) → crossedCard (crossed (side .hears) d s memory line) ≡ crossed heard d (side .card s) memory line
-    unfolding crossedCard crossed through
-    crossed-same (Unseen fill) = refl
-    crossed-same (Cut k fill) = ap (back (filled k fill (length line))) (f .same s (r .run) memory (r .idle) (take k line))
-    crossed-same (Flipped i j) = ap (back (flipped j)) (f .same s (r .run) memory (r .idle) (flipped i line))
+  pub record Crosses (s : S) (memory : List ℕ) (d : Damage) (line : List Bool) : Type 0 where
+    pub found : Card
+    pub like : Like (side .alone) (side .card s) found
+    pub idle : Idle found memory
+    pub after : Like (side .alone) (crossed heard d found memory line .side) (side .card (crossed (side .hears) d s memory line .side))
+    pub memory-same : crossed (side .hears) d s memory line .memory ≡ crossed heard d found memory line .memory
+    pub got-same : crossed (side .hears) d s memory line .got ≡ crossed heard d found memory line .got
+    pub refused-same : crossed (side .hears) d s memory line .refused ≡ crossed heard d found memory line .refused
+    pub runs : side .Runs (crossed (side .hears) d s memory line .side)
 
-    crossed-runs : (d : Damage) → side .Runs (crossed (side .hears) d s memory line .side)
+  module _ (s : S) (memory : List ℕ) (r : Ready s memory) where
+    -- the card found is idle too
+    found-idle : {c : Card} → Like (side .alone) (side .card s) c → InRange c → Idle c memory
+    found-idle l ranged =
+        record { ranged = ranged; closed = ap (λ (p : Port). p .message) (l .port) ∙ r .idle .closed; lent = r .idle .lent ∙ sym (l .size) }
+
+    crosses : (d : Damage) (line : List Bool) → Crosses s memory d line
     unfolding crossed
-    crossed-runs (Unseen fill) = r .run
-    crossed-runs (Cut k fill) = f .runs-on (r .run) memory (take k line)
-    crossed-runs (Flipped i j) = f .runs-on (r .run) memory (flipped i line)
-
-    crossed-ready : (d : Damage) → Ready (crossed (side .hears) d s memory line .side) (crossed (side .hears) d s memory line .memory)
-    unfolding crossedCard
-    crossed-ready d =
+    crosses (Unseen fill) line = record {
+      found = side .card s;
+      like = like-self (side .card s);
+      idle = r .idle;
+      after = like-self (side .card s);
+      memory-same = refl;
+      got-same = refl;
+      refused-same = refl;
+      runs = r .run;
+    }
+    crosses (Cut k fill) line =
+        let m = f .meets s (r .run) memory (r .idle) (take k line) in
         record {
-          run = crossed-runs d;
-          idle =
-              subst₂ Idle (sym (ap (λ (x : Crossed Card). x .side) (crossed-same d))) (sym (ap (λ (x : Crossed Card). x .memory) (crossed-same d)))
-              (crossed-idle (side .card s) memory (r .idle) d line);
+          found = m .found;
+          like = m .like;
+          idle = found-idle (m .like) (m .ranged);
+          after = m .after;
+          memory-same = m .memory-same;
+          got-same = ap (filled k fill (length line)) (m .sent-same);
+          refused-same = m .refused-same;
+          runs = m .runs;
         }
-
-  -- the device's calls before it
-  called-ready : (calls : List ModuleCall) (s : S) (memory : List ℕ) → Ready s memory → Ready (settings (side .sets) calls s) memory
-  called-ready calls s memory r =
-      record {
-        run = settings-runs side (f .lawful) (r .run) calls;
-        idle = rw (called-card side (f .lawful) (r .run) calls) (calls-idle (side .card s) memory (r .idle) calls);
-      }
+    crosses (Flipped i j) line =
+        let m = f .meets s (r .run) memory (r .idle) (flipped i line) in
+        record {
+          found = m .found;
+          like = m .like;
+          idle = found-idle (m .like) (m .ranged);
+          after = m .after;
+          memory-same = m .memory-same;
+          got-same = ap (flipped j) (m .sent-same);
+          refused-same = m .refused-same;
+          runs = m .runs;
+        }
 
   -- ---- a message, with the device's calls before it
 
+  -- the device's calls leave a state ready
+  called-ready : {s : S} {memory : List ℕ} → Ready s memory → (fate : Fate) → Ready (settings (side .sets) (fate .calls) s) memory
+  called-ready {s} r fate =
+      let runs = settings-runs side (f .lawful) (r .run) (fate .calls) in
+      let aside = called-aside side (f .lawful) (r .run) (fate .calls) in
+      record {
+        run = runs;
+        idle = record {
+          ranged = f .lawful .sound runs .ranged;
+          closed = ap (λ (p : Port). p .message) (aside .port) ∙ r .idle .closed;
+          lent = r .idle .lent ∙ sym (aside .size);
+        };
+      }
+
+  -- a leg of a command with a block: the card that it finds, what it leaves, and the turn that follows
+  pub record Leg (t k : Command) (block : List ℕ) (fate : Fate) (g g′ : Course S) : Type 0 where
+    pub found : Card
+    pub like : Like (side .alone) (called side (g .side) (fate .calls)) found
+    pub idle : Idle found (g .memory)
+    pub after : Like (side .alone) (sent k block (fate .damage) found (g .memory) .side) (side .card (g′ .side))
+    pub turn-is : g′ .turn ≡ turnAfter t (g .turn + 1) (words (messageWords (k .length)) (sent k block (fate .damage) found (g .memory) .got))
+    pub memory-is : g′ .memory ≡ sent k block (fate .damage) found (g .memory) .memory
+    pub quiet : g′ .refused ≡ g .refused
+    pub ready : Ready (g′ .side) (g′ .memory)
+
   module _ (t : Command) (block : List ℕ) (fate : Fate) (g : Course S) (r : Ready (g .side) (g .memory)) where
-    abbrev line : List Bool
-    line = lineOf (commandAt t (g .turn)) block
-
-    -- a message to the card has crossed
-    arrives : Crossed Card → Course Card
-    arrives x =
-        record {
-          turn = turnAfter t (g .turn + 1) (words (messageWords (commandAt t (g .turn) .length)) (x .got));
-          side = x .side;
-          memory = x .memory;
-          calls = g .calls ++ fate .calls;
-          refused = g .refused ++ x .refused;
-        }
-
-    leg-same : courseCard (leg (side .hears) (side .sets) t block fate g) ≡ leg heard deviceSets t block fate (courseCard g)
-    unfolding courseCard leg crossedCard arrives
-    leg-same =
-        ap arrives
-        (crossed-same (settings (side .sets) (fate .calls) (g .side)) (g .memory) (called-ready (fate .calls) (g .side) (g .memory) r) line (fate .damage)
-        ∙ ap (λ (c : Card). crossed heard (fate .damage) c (g .memory) line) (called-card side (f .lawful) (r .run) (fate .calls)))
-
-    leg-ready : Ready (leg (side .hears) (side .sets) t block fate g .side) (leg (side .hears) (side .sets) t block fate g .memory)
-    unfolding leg
-    leg-ready =
-        crossed-ready (settings (side .sets) (fate .calls) (g .side)) (g .memory) (called-ready (fate .calls) (g .side) (g .memory) r) line (fate .damage)
-
-  -- ---- three messages
-
-  module _ (t : Command) (block : List ℕ) (fates : Fates) (g : Course S) (r : Ready (g .side) (g .memory)) where
-    abbrev first : Course S
-    first = leg (side .hears) (side .sets) t [] (fates .first) g
-
-    abbrev second : Course S
-    second = leg (side .hears) (side .sets) t block (fates .second) first
-
-    abbrev third : Course S
-    third = leg (side .hears) (side .sets) t [] (fates .third) second
-
-    first-ready : Ready (first .side) (first .memory)
-    first-ready = leg-ready t [] (fates .first) g r
-
-    second-ready : Ready (second .side) (second .memory)
-    second-ready = leg-ready t block (fates .second) first first-ready
-
-    -- the card alone, from its second message on
-    behind : Course Card → Course Card
-    behind x = leg heard deviceSets t [] (fates .third) (leg heard deviceSets t block (fates .second) x)
-
-    third-same : courseCard third ≡ behind (courseCard first)
-    unfolding behind
-    third-same =
-        leg-same t [] (fates .third) second second-ready
-        ∙ ap (leg heard deviceSets t [] (fates .third)) (leg-same t block (fates .second) first first-ready)
-
-    rest : Course Card → Course Card
-    rest x = cond (eqb (x .turn) 7) x (behind x)
-
-    legs-same : courseCard (legs (side .hears) (side .sets) t block fates g) ≡ legs heard deviceSets t block fates (courseCard g)
-    unfolding legs rest behind
-    legs-same = go (eqb (first .turn) 7) refl ∙ ap rest (leg-same t [] (fates .first) g r)
-      where
-        go : (b : Bool) → eqb (first .turn) 7 ≡ b → courseCard (cond b first third) ≡ rest (courseCard first)
-        go true e = unfold courseCard in rw e
-        go false e = third-same ∙ unfold courseCard in rw e
-
-    legs-runs : side .Runs (legs (side .hears) (side .sets) t block fates g .side)
-    unfolding legs
-    legs-runs = go (eqb (first .turn) 7)
-      where
-        go : (b : Bool) → side .Runs ((cond b first third) .side)
-        go true = first-ready .run
-        go false = leg-ready t [] (fates .third) second second-ready .run
-
-  -- ---- any command in the middle
-
-  module _ (s : S) (memory : List ℕ) (t : Command) (block : List ℕ) (p : Sends side s memory t block) where
-    of-card : Sends inWords (side .card s) memory t block
-    of-card = record {
-      run = f .lawful .card-run (p .run);
-      idle = p .idle;
-      lent = p .lent;
-      fits = p .fits;
-      block-fits = p .block-fits;
-      words = p .words;
-      other = p .other;
-    }
-
-    module _ (fates : Fates) where
-      ready : Ready s memory
-      ready = record { run = p .run; idle = side-idle side (f .lawful) (p .run) (p .idle) (p .lent) }
-
-      command-same : courseCard (sureCommand side s memory t block fates) ≡ sureCommand inWords (side .card s) memory t block fates
-      unfolding courseCard
-      command-same = legs-same t block fates _ ready
-
-      means : Means side s memory t block (sureCommand side s memory t block fates)
-      unfolding courseCard
-      means =
-          let m : Means inWords (side .card s) memory t block (courseCard (sureCommand side s memory t block fates))
-          = subst (Means inWords (side .card s) memory t block) (sym command-same) (any-command (side .card s) memory t block of-card fates) in
-          let is = called-card side (f .lawful) (p .run) (sureCommand side s memory t block fates .calls) in
-          record {
-            done = rw is (m .done);
-            unsure = rw is (m .unsure);
-            ends = m .ends;
-            unrefused = m .unrefused;
-            runs = legs-runs t block fates _ ready;
-            closed = m .closed;
-            lent = m .lent;
-          }
-
-  pub any-follows : AnyCommand side
-  any-follows = means
-
-  pub any-undamaged-follows : AnyUndamaged side
-  unfolding courseCard
-  any-undamaged-follows s memory t block p ok fates none =
-      ap (λ (g : Course Card). eqb (g .turn) 6) (command-same s memory t block p fates)
-      ∙ any-undamaged (side .card s) memory t block (of-card s memory t block p) ok fates none
+    pub leg-meets : (k : Command) → commandAt t (g .turn) ≡ k → Sendable k (payload k block) → Leg t k block fate g (leg (side .hears) (side .sets) t block fate g)
+    unfolding leg sent
+    leg-meets k is s =
+        let x : Crosses (settings (side .sets) (fate .calls) (g .side)) (g .memory) (fate .damage) (lineOf k block)
+        = crosses (settings (side .sets) (fate .calls) (g .side)) (g .memory) (called-ready r fate) (fate .damage) (lineOf k block) in
+        let quiet : crossed (side .hears) (fate .damage) (settings (side .sets) (fate .calls) (g .side)) (g .memory) (lineOf k block) .refused ≡ []
+        = x .refused-same ∙ sent-quiet k block s (x .found) (g .memory) (x .idle) (fate .damage) in
+        let idle : Idle (sent k block (fate .damage) (x .found) (g .memory) .side) (sent k block (fate .damage) (x .found) (g .memory) .memory)
+        = crossed-idle (x .found) (g .memory) (x .idle) (fate .damage) (lineOf k block) in
+        rw is (record {
+          found = x .found;
+          like = x .like;
+          idle = x .idle;
+          after = x .after;
+          turn-is = ap (λ (got : List Bool). turnAfter t (g .turn + 1) (words (messageWords (k .length)) got)) (x .got-same);
+          memory-is = x .memory-same;
+          quiet = ap (λ (more : List ℕ). g .refused ++ more) quiet ∙ append-nil (g .refused);
+          ready = record {
+            run = x .runs;
+            idle = record {
+              ranged = f .lawful .sound (x .runs) .ranged;
+              closed = ap (λ (p : Port). p .message) (x .after .port) ∙ idle .closed;
+              lent = ap length (x .memory-same) ∙ idle .lent ∙ sym (x .after .size);
+            };
+          };
+        })

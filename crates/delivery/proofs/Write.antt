@@ -24,7 +24,7 @@ use Rattle.delivery.specs.Play.{ModuleCall, Going, Buffers, Damages, Cal
 use Rattle.delivery.proofs.Acts.{Took}
 use Rattle.delivery.proofs.Effects.{write-acted, write-stored}
 use Rattle.delivery.proofs.Judged.{writeOf, write-fits, write-passes, write-even, write-inside}
-use Rattle.delivery.proofs.Kept.{kept-trans}
+use Rattle.delivery.proofs.Kept.{kept-trans, kept-either}
 use Rattle.delivery.proofs.Machine.{in-state, going, fatesOf, write-legs}
 use Rattle.delivery.proofs.Sending.{acted-then, passes-accepted}
 use Rattle.delivery.proofs.Settings.{Aside}
@@ -45,7 +45,7 @@ pub record WriteMeans (side : Side) (s : side .State) (memory : List ℕ) (sub :
   pub unsure : EndsUnsure end → (end .memory ≡ memory) ⊎ BlockWritten (side .card s) memory sub block (end .memory)
   pub ends : EndsDone end ⊎ EndsUnsure end
   pub unrefused : end .refused ≡ []
-  pub kept : Kept (called side s (end .calls)) (side .card (end .side))
+  pub kept : Kept (side .alone) (called side s (end .calls)) (side .card (end .side))
   pub runs : side .Runs (end .side)
 
 module _ (side : Side) (l : Lawful side) where
@@ -68,8 +68,8 @@ module _ (side : Side) (l : Lawful side) where
 
     -- ---- a WRITE that acted, told of the card at the start
 
-    module _ (calls : List ModuleCall) {c′ : Card} {memory′ : List ℕ} (a : Acted (called side s calls) memory w block c′ memory′) where
-      took : Took (called side s calls) memory w block c′ memory′
+    module _ (calls : List ModuleCall) {c′ : Card} {memory′ : List ℕ} (a : Acted (side .alone) (called side s calls) memory w block c′ memory′) where
+      took : Took (side .alone) (called side s calls) memory w block c′ memory′
       took = acted-then side l sends calls a
 
       acted-written : BlockWritten (side .card s) memory sub block memory′
@@ -82,9 +82,9 @@ module _ (side : Side) (l : Lawful side) where
                 ∙ ap (λ (b : Bases). written memory (wordPlace (b .«write_base») sub) block) (same .bases),
           )
 
-      acted-kept : Kept (called side s calls) c′
+      acted-kept : Kept (side .alone) (called side s calls) c′
       acted-kept =
-          kept-trans (called side s calls) (cardActed (called side s calls) (message w block)) c′ (write-acted sub block (p .short) (p .sub-address) (called side s calls)) (took .card)
+          kept-trans (called side s calls) (cardActed (called side s calls) (message w block)) c′ (kept-either (side .alone) (write-acted sub block (p .short) (p .sub-address) (called side s calls))) (took .card)
 
     -- and one whose base is even and whose block is inside is accepted
     inside-accepted : EvenBase (side .card s) → Inside (side .card s) sub block → Accepts (side .card s) memory w block

@@ -89,16 +89,15 @@ EndsUnsure end = unsureAt (end .turn) ≡ true
 abbrev pub Accepts : Card → List ℕ → Command → List ℕ → Type 0
 Accepts c memory t block = anySet (cardAfterLine c memory (lineOf t block) .port .status) ≡ false
 
--- the command acted exactly once: card and memory are what that one message, heard whole and accepted, makes of them, but for status bits
--- and last token
-pub record Acted (c : Card) (memory : List ℕ) (t : Command) (block : List ℕ) (c′ : Card) (memory′ : List ℕ) : Type 0 where
+-- the command acted exactly once: the card that one message, heard whole and accepted, makes is kept, and the memory is the one that it makes
+pub record Acted (alone : Bool) (c : Card) (memory : List ℕ) (t : Command) (block : List ℕ) (c′ : Card) (memory′ : List ℕ) : Type 0 where
   pub accepted : Accepts c memory t block
-  pub card : Kept (cardAfterLine c memory (lineOf t block)) c′
+  pub card : Kept alone (cardAfterLine c memory (lineOf t block)) c′
   pub stored : memory′ ≡ memoryAfterLine c memory (lineOf t block)
 
--- it did not act: nothing but status bits and last token is changed
-abbrev pub Still : Card → List ℕ → Card → List ℕ → Type 0
-Still c memory c′ memory′ = Kept c c′ × (memory′ ≡ memory)
+-- it did not act: the card is kept, and the memory as it was
+abbrev pub Still : Bool → Card → List ℕ → Card → List ℕ → Type 0
+Still alone c memory c′ memory′ = Kept alone c c′ × (memory′ ≡ memory)
 
 -- the card that the device's calls alone would have left
 abbrev pub called : (side : Side) → side .State → List ModuleCall → Card
@@ -106,11 +105,11 @@ called side s calls = side .card (settings (side .sets) calls s)
 
 pub record Means (side : Side) (s : side .State) (memory : List ℕ) (t : Command) (block : List ℕ) (end : Course (side .State)) : Type 0 where
   -- Done: the command acted
-  pub done : EndsDone end → Acted (called side s (end .calls)) memory t block (side .card (end .side)) (end .memory)
-  -- Unsure: it acted, or nothing but status bits and last token is changed
+  pub done : EndsDone end → Acted (side .alone) (called side s (end .calls)) memory t block (side .card (end .side)) (end .memory)
+  -- Unsure: it acted, or it did not
   pub unsure : EndsUnsure end
-      → Still (called side s (end .calls)) memory (side .card (end .side)) (end .memory)
-      ⊎ Acted (called side s (end .calls)) memory t block (side .card (end .side)) (end .memory)
+      → Still (side .alone) (called side s (end .calls)) memory (side .card (end .side)) (end .memory)
+      ⊎ Acted (side .alone) (called side s (end .calls)) memory t block (side .card (end .side)) (end .memory)
   -- there is a verdict, and the card refused no call
   pub ends : EndsDone end ⊎ EndsUnsure end
   pub unrefused : end .refused ≡ []
@@ -150,11 +149,11 @@ abbrev pub ByOddBase : Bases → Command → Type 0
 ByOddBase b t =
     ((t .code ≡ write .code) × (isEven (b .«write_base») ≡ false)) ⊎ ((t .code ≡ read .code) × (isEven (b .«read_base») ≡ false))
 
--- never Done: it is Unsure, and nothing but status bits and last token is changed
+-- never Done: it is Unsure, and the command did not act
 pub record NeverActs (side : Side) (s : side .State) (memory : List ℕ) (end : Course (side .State)) : Type 0 where
   pub not-done : EndsDone end → ⊥
   pub unsure : EndsUnsure end
-  pub still : Still (called side s (end .calls)) memory (side .card (end .side)) (end .memory)
+  pub still : Still (side .alone) (called side s (end .calls)) memory (side .card (end .side)) (end .memory)
 
 abbrev pub OddCommand : Side → Type 0
 OddCommand side = (s : side .State) (memory : List ℕ) (t : Command) (block : List ℕ) → Sends side s memory t block
@@ -174,11 +173,11 @@ withBase base c = record {
 }
 
 pub record BaseMeans (side : Side) (s : side .State) (memory : List ℕ) (base : ℕ) (end : Course (side .State)) : Type 0 where
-  -- Done: the write base is this one, and all else stays
-  pub done : EndsDone end → Kept (withBase base (called side s (end .calls))) (side .card (end .side))
+  -- Done: the write base is this one, and all else is kept
+  pub done : EndsDone end → Kept (side .alone) (withBase base (called side s (end .calls))) (side .card (end .side))
   -- Unsure: it is this one, or as it was
   pub unsure : EndsUnsure end
-      → Kept (called side s (end .calls)) (side .card (end .side)) ⊎ Kept (withBase base (called side s (end .calls))) (side .card (end .side))
+      → Kept (side .alone) (called side s (end .calls)) (side .card (end .side)) ⊎ Kept (side .alone) (withBase base (called side s (end .calls))) (side .card (end .side))
   -- the memory stays in any case
   pub memory-kept : end .memory ≡ memory
   pub ends : EndsDone end ⊎ EndsUnsure end

@@ -9,7 +9,7 @@
 -- The proofs are `delivery`, `undamaged-delivery`, `odd-base`, and `delivery-at-pins`, `undamaged-at-pins`, `odd-base-at-pins` of
 -- proofs/Theorem.antt.
 use Prim.Native.Nat.{ℕ, _+_, _≤_}
-use mathlib.Core.Bool.{true, false}
+use mathlib.Core.Bool.{Bool, true, false}
 use mathlib.Core.List.{List, []}
 use mathlib.Core.Logic.{_⊎_}
 use mathlib.Core.Path.{_≡_}
@@ -33,22 +33,30 @@ use Rattle.delivery.specs.Play.{Sets, settings, Going, Buffers, Damages,
 
 -- ---- the card's side of the line
 
--- its states, how a state hears a message and takes a module-state call, the card that is in a state, and the states that were run
--- from power-up
+-- its states, how a state hears a message and takes a module-state call, the card that is in a state, the states that were run from power-up,
+-- and whether the controller is alone with the card: another port may be busy at it (crate beside)
 pub record Side : Type 1 where
   pub State : Type 0
   pub hears : Hears State
   pub sets : Sets State
   pub card : State → Card
   pub Runs : State → Type 0
+  pub alone : Bool
 
 -- the card alone, word by word
 abbrev pub inWords : Side
-inWords = record { State = Card; hears = heard; sets = λ c stf state. moduleSet c stf state .card; card = λ c. c; Runs = Run }
+inWords = record { State = Card; hears = heard; sets = λ c stf state. moduleSet c stf state .card; card = λ c. c; Runs = Run; alone = true }
 
 -- the card behind its shifter, bit by bit
 abbrev pub atPins : Side
-atPins = record { State = Pins; hears = heardAtPins; sets = λ p stf state. modulePins p stf state .pins; card = λ p. p .card; Runs = RunPins }
+atPins = record {
+  State = Pins;
+  hears = heardAtPins;
+  sets = λ p stf state. modulePins p stf state .pins;
+  card = λ p. p .card;
+  Runs = RunPins;
+  alone = true;
+}
 
 -- ---- the block and the memory
 
@@ -96,14 +104,15 @@ SaysUnsure end = verdictOf (end .state) .unsure ≡ true
 
 -- ---- what it means
 
--- nothing of the card but its status bits and last token is changed, and no message is open
-pub record Kept (c c′ : Card) : Type 0 where
+-- nothing of the card but its status bits and last token is changed, and no message is open. Where the controller is not alone, nothing is said of
+-- the time, which another port may move, nor of STF and module state, which the device may set while neither port is selected.
+pub record Kept (alone : Bool) (c c′ : Card) : Type 0 where
   pub size : c′ .size ≡ c .size
   pub bases : c′ .bases ≡ c .bases
-  pub time : c′ .time ≡ c .time
-  pub stf : c′ .stf ≡ c .stf
-  pub module-state : c′ .«module_state» ≡ c .«module_state»
   pub closed : c′ .port .message ≡ emptied false
+  pub time : alone ≡ true → c′ .time ≡ c .time
+  pub stf : alone ≡ true → c′ .stf ≡ c .stf
+  pub module-state : alone ≡ true → c′ .«module_state» ≡ c .«module_state»
 
 pub record Meaning (side : Side) (s : side .State) (memory : List ℕ) (sub : ℕ) (block : List ℕ) (end : Going (side .State)) : Type 0 where
   -- Done: the write base was even, the block inside, and it is written
@@ -113,9 +122,9 @@ pub record Meaning (side : Side) (s : side .State) (memory : List ℕ) (sub : �
   -- there is a verdict, and neither card nor controller refused a call
   pub ends : SaysDone end ⊎ SaysUnsure end
   pub unrefused : end .refused ≡ []
-  -- size, bases and time stay, and STF and module state but for the device's own calls; and the card is one that was run from power-up, so
-  -- that the next sure write can follow
-  pub kept : Kept (side .card (settings (side .sets) (end .calls) s)) (side .card (end .side))
+  -- the card is kept, with STF and module state as the device's own calls leave them; and it is one that was run from power-up, so that the next
+  -- sure write can follow
+  pub kept : Kept (side .alone) (side .card (settings (side .sets) (end .calls) s)) (side .card (end .side))
   pub runs : side .Runs (end .side)
 
 -- every card that was run from power-up and has no message open, its memory, a block of up to 63 words for a sub-address up to 255,

@@ -125,7 +125,7 @@ pub fn start(cards: &mut [CardRecord], length: u32) -> LoadStarted
     ensures { λ r. ⌜ (r ≡ listStarted (now (cards .entry)) length) × (now (cards .exit) ≡ recordsStarted (now (cards .entry)) length) ⌝ }
 {
     let seen = look(cards);
-    let started = loader::start(cards.len(), seen.least, seen.greatest, length);
+    let started = loader_calls::start(cards.len(), seen.least, seen.greatest, length);
     note_all(cards, started.refusal, started.load);
     started
 }
@@ -134,7 +134,7 @@ pub fn start(cards: &mut [CardRecord], length: u32) -> LoadStarted
 pub fn give(cards: &mut [CardRecord], state: Loader, words: &[u16]) -> LoadGiven
     ensures { λ r. ⌜ (r ≡ listGiven (now (cards .entry)) state (now (words .entry))) × (now (cards .exit) ≡ recordsGiven (now (cards .entry)) state (now (words .entry))) ⌝ }
 {
-    let given = loader::give(state, cards.len(), words);
+    let given = loader_calls::give(state, cards.len(), words);
     let i = state.card as usize;
     if cards.len() <= i {
         return given;

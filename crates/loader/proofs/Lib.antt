@@ -4,4 +4,3 @@ pub mod LoadLaws
 pub mod Ranges
 pub mod Refusals
 pub mod Known
-pub mod Unique

@@ -18,7 +18,7 @@ use Rattle.delivery.specs.Delivery.{Side}
 use Rattle.delivery.proofs.SideLaws.{Lawful}
 use Rattle.loading.specs.Loading.{longest, Slot, Unit, Passages, Before, entries, waiting, LoadPremises, EachMeets, NoCard, OneMore, Each, NoSlot, Served}
 use Rattle.loading.proofs.Ends.{nothing-loaded}
-use Rattle.loading.proofs.Known.{Known}
+use Rattle.delivery.proofs.Demand3.{Demand3}
 use Rattle.loading.proofs.OneCard.{Here, CardEnded, card-served}
 use Rattle.loading.proofs.Reach.{Reaches, reached, to, then, within}
 use Rattle.loading.proofs.Rounds.{Around, unitOf}
@@ -31,7 +31,7 @@ pub started-long : {S : Type 0} (load : Load) (bs : List (Before S)) → length 
 started-long load [] = refl
 started-long load (b ∷ bs) = ap suc (started-long load bs)
 
-module _ (side : Side) (z : Known side)
+module _ (side : Side) (z : Demand3 side)
     (table : List ℕ) (words : AreWords table) (some : 0 < length table) (short : length table ≤ 32768)
     (passages : Passages) (lent : (i n : ℕ) → longest (length table) ≤ length (passages i n .buffer))
     (cards : ℕ) (few : cards ≤ 32) where

@@ -56,7 +56,7 @@ module _ {S : Type 0} (o : Around S) (cards len card : ℕ) where
 -- ---- what the end of a card's load means
 
 module _ {side : Side} (b : Before (side .State)) (table : List ℕ) (end : Slot (side .State)) (base : ℕ)
-    (kept : Kept (withBase base (called side (b .side) (end .calls))) (side .card (end .side))) (runs : side .Runs (end .side)) where
+    (kept : Kept (side .alone) (withBase base (called side (b .side) (end .calls))) (side .card (end .side))) (runs : side .Runs (end .side)) where
   pub stopped-means : (place j : ℕ) → place ≡ 63 * j → place < length table → allDone (end .verdicts) ≡ false
       → StoppedThere table (b .memory) place (blockWords (length table) place) (end .verdicts) (end .memory)
       → LoadMeans side b table (loadGives (Stopped place (blockWords (length table) place))) end

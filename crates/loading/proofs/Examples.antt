@@ -20,7 +20,7 @@ use Rattle.token.specs.Response.{responseFirst, responseSecond, responseMarks, 
 use Rattle.judge.specs.Judge.{firstFailing, step1, lengthFits, subFits, subStatus, step2, wordPlace, isEven, inside, blockStatus, step3, tokenStatus, step4, isChecked, checkStatus, step5, endStatus, judgement}
 use Rattle.card.specs.Card.{powered, selected, moduleRefusal, moduleSet, wordRefusal}
 use Rattle.card.specs.Exchange.{exchanged, readbackWord, passedWord, payloadWord, nextWord, told, took, withTold, wordTold, checkAfter, taken}
-use Rattle.card.specs.Release.{basesAfter, timeAfter, silent, judged, acted, noted, ended, writes, stored, endedMemory, releaseRefusal, released, memoryAfter}
+use Rattle.card.specs.Release.{basesAfter, timeAfter, silent, judged, acted, noted, ended, isAccepted, writes, stored, endedMemory, releaseRefusal, released, memoryAfter}
 use Rattle.card.specs.Run as run
 use Rattle.card.specs.State.{emptied, fresh, sized, outOfRange}
 use Rattle.card.specs.Whole.{after, answers, listed, refusals, listened, cardAfterLine, memoryAfterLine, sentBits, refusalsOf, heard}
@@ -130,7 +130,7 @@ unfolding before new passages toldOf cards end long bits number stream shift ste
     table rowIn ruleOf messageWords commandFirst commandUpper commandSecond commandFits commandMarks goodCommand commandFields
     withCheck checkRight goodMarks responseFirst responseSecond responseMarks goodResponse responseFields responseRead
     anySet firstFailing step1 lengthFits subFits subStatus step2 wordPlace isEven inside blockStatus step3 tokenStatus step4 isChecked checkStatus step5 endStatus judgement
-    basesAfter timeAfter written silent judged acted noted ended writes stored endedMemory
+    basesAfter timeAfter written silent judged acted noted ended isAccepted writes stored endedMemory
     selected wordRefusal exchanged releaseRefusal released memoryAfter readbackWord passedWord payloadWord nextWord told took withTold wordTold checkAfter taken
     powered moduleRefusal moduleSet emptied fresh sized outOfRange readRefusal tokenGood payloadGood fieldsRead answerRead
     isReading withCheckWord payload message blockFits buildRefusal bufferAfter

@@ -2,7 +2,6 @@ pub mod Blocks
 pub mod Cards
 pub mod Ends
 pub mod Examples
-pub mod Known
 pub mod OneCard
 pub mod Others
 pub mod Reach

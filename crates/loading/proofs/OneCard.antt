@@ -30,7 +30,7 @@ use Rattle.delivery.proofs.Kept.{kept-opened}
 use Rattle.delivery.proofs.SideLaws.{Starts, called-aside, based-start, based-kept, based-based}
 use Rattle.delivery.proofs.Write.{WriteSends, WriteMeans, write-means, write-undamaged}
 use Rattle.loading.specs.Loading.{longest, Slot, Unit, Passages, Before, loadedTo, blocks, StoppedThere, LoadMeans, LoadPremises, CardUndamaged}
-use Rattle.loading.proofs.Known.{Known}
+use Rattle.delivery.proofs.Demand3.{Demand3}
 use Rattle.loading.proofs.Blocks.{unsure-not-all, unsure-next, done-next, block-long, block-words, loaded-long, written-next}
 use Rattle.loading.proofs.Ends.{begin, oneMore, settled-unsure, base-done, block-done, last-done, stopped-means, loaded-means}
 use Rattle.loading.proofs.Reach.{Reaches, reached, then, within}
@@ -44,7 +44,7 @@ pub record Here {S : Type 0} (o : Around S) (cards : ℕ) : Type 0 where
   pub records-before : length (o .records-before) ≡ o .number
   pub counted : length (recordsOf o NotYet) ≡ cards
 
-module _ (side : Side) (z : Known side) (table : List ℕ) (words : AreWords table) (short : length table ≤ 32768)
+module _ (side : Side) (z : Demand3 side) (table : List ℕ) (words : AreWords table) (short : length table ≤ 32768)
     (passages : Passages) (lent : (i n : ℕ) → longest (length table) ≤ length (passages i n .buffer))
     (o : Around (side .State)) (cards : ℕ) (few : cards ≤ 32) (here : Here o cards)
     (b : Before (side .State)) (p : LoadPremises side b) (holds : length table ≤ side .card (b .side) .size) where
@@ -93,7 +93,7 @@ module _ (side : Side) (z : Known side) (table : List ℕ) (words : AreWords tab
   record Goes (place j base : ℕ) (calls : List ModuleCall) (x : side .State) (memory : List ℕ) : Type 0 where
     at-block : place ≡ 63 * j
     some : place < len
-    kept : Kept (withBase base (called side (b .side) calls)) (side .card x)
+    kept : Kept (side .alone) (withBase base (called side (b .side) calls)) (side .card x)
     run : side .Runs x
     memory-is : memory ≡ loadedTo table old place
 
@@ -146,7 +146,7 @@ module _ (side : Side) (z : Known side) (table : List ℕ) (words : AreWords tab
 
   -- base or block was Unsure
   stopped-here : (place j : ℕ) → place ≡ 63 * j → place < len → (stage base : ℕ) (past : Past) (e : Course (side .State)) → e .turn ≡ 7 → e .refused ≡ []
-      → Kept (withBase base (called side (b .side) (past .calls ++ e .calls))) (side .card (e .side)) → side .Runs (e .side)
+      → Kept (side .alone) (withBase base (called side (b .side) (past .calls ++ e .calls))) (side .card (e .side)) → side .Runs (e .side)
       → StoppedThere table old place (blockWords len place) (past .verdicts ++ (verdict.Unsure ∷ [])) (e .memory)
       → (CardUndamaged passages (o .number) → EndsDone e)
       → (m : ℕ) → CardEnded m (settled o (loader cards len (o .number) place stage 0) past e)
@@ -171,7 +171,7 @@ module _ (side : Side) (z : Known side) (table : List ℕ) (words : AreWords tab
     abbrev block-end : Unit (side .State)
     block-end = settled o (block-stage place) past e
 
-    block-kept : Kept (withBase (baseAt place) (called side (b .side) (past .calls ++ e .calls))) (side .card (e .side))
+    block-kept : Kept (side .alone) (withBase (baseAt place) (called side (b .side) (past .calls ++ e .calls))) (side .card (e .side))
     block-kept = based-kept side (z .lawful) (starts g) (baseAt place) (side .card (e .side)) (past .calls) (e .calls) (g .kept) (m .kept)
 
     block-new : BlockWritten (side .card x) memory 0 (block place) (e .memory) → e .memory ≡ loadedTo table old (place + blockWords len place)
@@ -242,7 +242,7 @@ module _ (side : Side) (z : Known side) (table : List ℕ) (words : AreWords tab
     abbrev base-end : Unit (side .State)
     base-end = settled o (base-stage place) past e
 
-    base-stopped : (base′ : ℕ) → e .turn ≡ 7 → Kept (withBase base′ (called side (b .side) (past .calls ++ e .calls))) (side .card (e .side))
+    base-stopped : (base′ : ℕ) → e .turn ≡ 7 → Kept (side .alone) (withBase base′ (called side (b .side) (past .calls ++ e .calls))) (side .card (e .side))
         → CardEnded (3 + 6 * k) base-end
     base-stopped base′ t kept =
         let number : 2 * j ≡ 2 * (place / 63) = omega (arith, g .at-block) in
@@ -250,12 +250,12 @@ module _ (side : Side) (z : Known side) (table : List ℕ) (words : AreWords tab
         (inl (unsure-next (2 * j) _ so-far number, m .memory-kept ∙ g .memory-is)) cl (3 + 6 * k)
 
     base-unsure : e .turn ≡ 7
-        → Kept (called side x (e .calls)) (side .card (e .side)) ⊎ Kept (withBase (baseAt place) (called side x (e .calls))) (side .card (e .side))
+        → Kept (side .alone) (called side x (e .calls)) (side .card (e .side)) ⊎ Kept (side .alone) (withBase (baseAt place) (called side x (e .calls))) (side .card (e .side))
         → CardEnded (3 + 6 * k) base-end
     base-unsure t (inl y) = base-stopped base t (based-kept side (z .lawful) (starts g) base (side .card (e .side)) (past .calls) (e .calls) (g .kept) y)
     base-unsure t (inr y) = base-stopped (baseAt place) t (based-based side (z .lawful) (starts g) base (baseAt place) (side .card (e .side)) (past .calls) (e .calls) (g .kept) y)
 
-    base-next : e .turn ≡ 6 → Kept (withBase (baseAt place) (called side x (e .calls))) (side .card (e .side)) → CardEnded (3 + 6 * k) base-end
+    base-next : e .turn ≡ 6 → Kept (side .alone) (withBase (baseAt place) (called side x (e .calls))) (side .card (e .side)) → CardEnded (3 + 6 * k) base-end
     base-next t y =
         let past₁ : Past = oneMore past e in
         let g₁ : Goes place j (baseAt place) (past₁ .calls) (e .side) (e .memory)

@@ -21,7 +21,7 @@ use Rattle.loader.proofs.StepLaws.{start-number, Held, start-few, start-held}
 use Rattle.listed.specs.Listed.{sizes, listStarted, recordsStarted}
 use Rattle.delivery.specs.Delivery.{Side}
 use Rattle.loading.specs.Loading.{longest, Unit, Passages, serveAll, Before, entries, waiting, loadUnit, EachMeets, NoCard, OneMore, Each, NoSlot, UnitMeans, Loading}
-use Rattle.loading.proofs.Known.{Known}
+use Rattle.delivery.proofs.Demand3.{Demand3}
 use Rattle.loading.proofs.Cards.{startedWith, AllEnded, rest, nothing-to-load}
 use Rattle.loading.proofs.Reach.{stays, ended}
 
@@ -32,7 +32,7 @@ over-behind cards len few short =
     let all : Over (loader cards len cards 0 0 0) = record { card = refl; place = refl; stage = refl; turn = refl } in
     rw (over-in-range (loader cards len cards 0 0 0) few short all, over-stays (loader cards len cards 0 0 0) all)
 
-module _ (side : Side) (z : Known side)
+module _ (side : Side) (z : Demand3 side)
     (cards : List (Before (side .State))) (table : List ℕ) (passages : Passages)
     (started : listStarted (entries cards) (length table) .refusal ≡ refusal.None) where
   abbrev n : ℕ
@@ -105,7 +105,7 @@ module _ (side : Side) (z : Known side)
         rw (starts-going e, ended side table passages (all .reaches) (ap (λ (a : AllOver). a .over) over) fuel (omega arith))
         (record { each = all .each; over = over; unrefused = refl })
 
-pub loading-holds : (side : Side) → Known side → Loading side
+pub loading-holds : (side : Side) → Demand3 side → Loading side
 loading-holds side z cards table passages meets words started lent = go (eqb (length table) 0 || eqb (length (entries cards)) 0) refl
   where
     go : (c : Bool) → (eqb (length table) 0 || eqb (length (entries cards)) 0) ≡ c → UnitMeans side cards table passages (loadUnit side cards table passages)

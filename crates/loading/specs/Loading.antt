@@ -171,10 +171,10 @@ pub record LoadMeans (side : Side) (b : Before (side .State)) (table : List ℕ)
       × StoppedThere table (b .memory) (said .place) (said .words) (end .verdicts) (end .memory)
   -- there is an answer
   pub ends : (said .loaded ≡ true) ⊎ (said .stopped ≡ true)
-  -- for some write base: the card is as before but for that base, status bits and last token, and STF and module state as the device's own
-  -- calls leave them; and it is one that was run from power-up, so that the next load can follow
+  -- for some write base: the card with that base is kept, with STF and module state as the device's own calls leave them; and it is one that was run
+  -- from power-up, so that the next load can follow
   pub base : ℕ
-  pub kept : Kept (withBase base (called side (b .side) (end .calls))) (side .card (end .side))
+  pub kept : Kept (side .alone) (withBase base (called side (b .side) (end .calls))) (side .card (end .side))
   pub runs : side .Runs (end .side)
 
 -- a card that was run from power-up and has no message open, its memory, and a record with its size

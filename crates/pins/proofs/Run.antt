@@ -90,6 +90,12 @@ module _ (p : Pins) (h : SoundPins p) (memory : List ℕ) (quiet : wordRefusal (
       go true e = rw (le-ltb 15 (p .shifter .count) (h .in-range), e) (λ some. absurd (omega arith))
       go false e = rw (le-ltb 15 (p .shifter .count) (h .in-range), e) (λ some. first-noted)
 
+pub clocked-in-range : (p : Pins) (memory : List ℕ) (bit : Bool) → p .shifter .count ≤ 15 → clocked p memory bit .pins .shifter .count ≤ 15
+unfolding clocked
+clocked-in-range p memory bit h =
+    by-number (λ (x : Clocked). x .pins .shifter .count ≤ 15) (behindShifter p (wordRefusal (p .card) (length memory))) (λ refused. h)
+    (λ taken. step-in-range (p .shifter) (toldFirst p memory .word) bit h)
+
 sound-clocked : (p : Pins) → SoundPins p → (memory : List ℕ) (bit : Bool) → SoundPins (clocked p memory bit .pins)
 unfolding clocked
 sound-clocked p h memory bit =

@@ -422,7 +422,7 @@ fn kind_of(load: Load) -> usize {
 
 // 11: p cards, the smallest of size q, the largest of size r; a table of s words.
 fn start_load(record: Record) {
-    let started = loader::start(
+    let started = loader_calls::start(
         record.p as usize,
         record.q as u32,
         record.r as u32,
@@ -437,8 +437,8 @@ fn start_load(record: Record) {
 
 // 12: the card to be selected, and whether all is over.
 fn look_at_load(record: Record) {
-    let now = loader::card_now(load_of(record));
-    let over = loader::all_over(load_of(record));
+    let now = loader_calls::card_now(load_of(record));
+    let over = loader_calls::all_over(load_of(record));
     write(b"O");
     say(now.refusal as usize);
     say(now.card as usize);
@@ -447,7 +447,7 @@ fn look_at_load(record: Record) {
 }
 
 fn ask_load_in(record: Record, table: &[u16], buffer: &mut [u16]) {
-    let asked = loader::ask(load_of(record), table, buffer);
+    let asked = loader_calls::ask(load_of(record), table, buffer);
     let after = asked.state;
     write(b"K");
     say(asked.refusal as usize);

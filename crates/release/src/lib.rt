@@ -6,7 +6,7 @@ ghost use lib.Dec.{eqb};
 ghost use lib.ListN.{length};
 ghost use Rattle.judge.specs.Judge.{wordPlace};
 ghost use Rattle.rules.specs.Rules.{tick, write};
-ghost use Rattle.card.specs.Release.{releaseRefusal, released, memoryAfter, basesAfter, timeAfter, first32, first64, silent, judged, acted, noted, stored, ended, endedMemory};
+ghost use Rattle.card.specs.Release.{releaseRefusal, releaseAccepts, released, memoryAfter, basesAfter, timeAfter, first32, first64, silent, judged, acted, noted, stored, ended, endedMemory};
 ghost use Rattle.bits.specs.Buffers.{written};
 ghost use Rattle.card.specs.Exchange.{fields};
 use card::Card;
@@ -25,7 +25,7 @@ use token::response::any_set;
 
 // ---- effects
 
-fn bases_after(bases: Bases, code: u8, value: u32) -> Bases
+pub fn bases_after(bases: Bases, code: u8, value: u32) -> Bases
     ensures { λ r. ⌜ r ≡ basesAfter bases code value ⌝ }
 {
     if rules::is_command(code, Name::Reset) {
@@ -91,7 +91,7 @@ fn joined(high: u16, low: u16) -> u32
 }
 
 // The payload's first two words as 32 bits, the first high.
-fn first32_of(card: Card) -> u32
+pub fn first32_of(card: Card) -> u32
     ensures { λ r. ⌜ r ≡ first32 card ⌝ }
 {
     let message = card.port.message;
@@ -195,7 +195,7 @@ fn end(card: Card, memory: &mut [u16], left: u8) -> Card
     act(card)
 }
 
-fn release_refusal(card: Card, size: usize, left: u8) -> u8
+pub fn release_refusal(card: Card, size: usize, left: u8) -> u8
     ensures { λ r. ⌜ r ≡ releaseRefusal card size left ⌝ }
 {
     let number = word_refusal(card, size);
@@ -206,6 +206,16 @@ fn release_refusal(card: Card, size: usize, left: u8) -> u8
         return refusal::NONE;
     }
     refusal::ARGUMENT
+}
+
+// Whether release is not refused, and finds the message accepted: what a caller asks who has more to do then than the card itself.
+pub fn accepts(card: Card, size: usize, left: u8) -> bool
+    ensures { λ r. ⌜ r ≡ releaseAccepts card size left ⌝ }
+{
+    if release_refusal(card, size, left) != refusal::NONE {
+        return false;
+    }
+    !is_silent(card, left) & !any_set(judged_status(card, left))
 }
 
 // Ends the message, with the bits of an unfinished word left over: judges it, and acts where it is accepted. Only here may

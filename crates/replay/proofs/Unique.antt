@@ -7,6 +7,7 @@ use Rattle.text.specs.declared.Line.{Line}
 use Rattle.text.proofs.Unique.{one-line}
 use Rattle.replay.specs.Replay.{Outcome, replayedGives}
 use Rattle.replay.specs.declared.Replayed.{Replayed}
+use Rattle.replay.proofs.module_state.Reads as module-state
 use Rattle.replay.proofs.play.Reads as play
 use Rattle.replay.proofs.replay.Reads as replay
 
@@ -21,3 +22,6 @@ one-replay κs a r s e f p q = (replayed-one r s (p .0 ∙ sym (q .0)), p .1 ∙
 pub one-play : (κs : _) (a : _) (r s : _) (e f : _) → play.Post κs a r e → play.Post κs a s f
     → (r ≡ s) × (now (e .1 .0) ≡ now (f .1 .0)) × (now (e .1 .1 .1 .0) ≡ now (f .1 .1 .1 .0))
 one-play κs a r s e f p q = (p .0 ∙ sym (q .0), p .1 .0 ∙ sym (q .1 .0), p .1 .1 ∙ sym (q .1 .1))
+
+pub one-module-state : (κs : _) (a : _) (r s : _) (e f : _) → module-state.Post κs a r e → module-state.Post κs a s f → r ≡ s
+one-module-state κs a r s e f p q = p ∙ sym q

@@ -74,7 +74,7 @@ fn on_release(card: Card, memory: &mut [u16], left: u8) -> Replayed
 }
 
 // A value above 31 is passed on as a state that the card refuses, in its order.
-fn module_state(value: u8) -> u8
+pub fn module_state(value: u8) -> u8
     ensures { λ r. ⌜ r ≡ moduleState value ⌝ }
 {
     if value <= 31 {

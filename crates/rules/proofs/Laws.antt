@@ -4,7 +4,7 @@ use mathlib.Core.Path.{_≡_, refl}
 use mathlib.Core.List.{map}
 use lib.ListN.{getD}
 use Rattle.rules.specs.declared.Name.{Name}
-use Rattle.rules.specs.declared.Name.the-variants.{Reset, Synch, Tick, Readback, Write, Read, ConfigWrite, ConfigRead}
+use Rattle.rules.specs.declared.Name.the-variants.{Reset, Synch, Tick, Readback, Write, Read, ConfigWrite, ConfigRead, Activate, Deactivate}
 use Rattle.rules.specs.declared.Rule.{Rule}
 use Rattle.rules.specs.Rules.{row, table, placeOf, rowOf, found, rowIn, ruleOf}
 
@@ -22,3 +22,5 @@ row-at-place Write = refl
 row-at-place Read = refl
 row-at-place ConfigWrite = refl
 row-at-place ConfigRead = refl
+row-at-place Activate = refl
+row-at-place Deactivate = refl

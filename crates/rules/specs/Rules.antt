@@ -7,7 +7,7 @@ use Rattle.rules.specs.declared.Rule.{Rule}
 use Rattle.rules.specs.declared.Found.{Found}
 use Rattle.rules.specs.declared.Found.the-variants.{Row, NotInTable}
 use Rattle.rules.specs.declared.Name.{Name}
-use Rattle.rules.specs.declared.Name.the-variants.{Reset, Synch, Tick, Readback, Write, Read, ConfigWrite, ConfigRead}
+use Rattle.rules.specs.declared.Name.the-variants.{Reset, Synch, Tick, Readback, Write, Read, ConfigWrite, ConfigRead, Activate, Deactivate}
 
 abbrev pub row : ℕ → ℕ → ℕ → ℕ → Rule
 row code least most last =
@@ -37,8 +37,14 @@ configWrite = row 0x20 2 2 0
 abbrev pub configRead : Rule
 configRead = row 0x21 2 2 0
 
+abbrev pub activate : Rule
+activate = row 0x24 0 0 0
+
+abbrev pub deactivate : Rule
+deactivate = row 0x25 0 0 0
+
 unfoldable pub table : List Rule
-table = reset ∷ synch ∷ tick ∷ readback ∷ write ∷ read ∷ configWrite ∷ configRead ∷ []
+table = reset ∷ synch ∷ tick ∷ readback ∷ write ∷ read ∷ configWrite ∷ configRead ∷ activate ∷ deactivate ∷ []
 
 -- ---- by name
 
@@ -52,6 +58,8 @@ placeOf Write = 4
 placeOf Read = 5
 placeOf ConfigWrite = 6
 placeOf ConfigRead = 7
+placeOf Activate = 8
+placeOf Deactivate = 9
 
 -- a command's row
 abbrev pub rowOf : Name → Rule
@@ -63,6 +71,8 @@ rowOf Write = write
 rowOf Read = read
 rowOf ConfigWrite = configWrite
 rowOf ConfigRead = configRead
+rowOf Activate = activate
+rowOf Deactivate = deactivate
 
 -- a code is a command's
 abbrev pub isCommand : ℕ → Name → Bool

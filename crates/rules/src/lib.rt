@@ -1,4 +1,4 @@
-// The two tables that every other crate takes its numbers from: the eight command rules, and the refusal numbers.
+// The two tables that every other crate takes its numbers from: the ten command rules, and the refusal numbers.
 ghost use mathlib.Core.Path.{_≡_};
 ghost use Prim.Native.Nat.{_<_};
 ghost use Rattle.rules.specs.Rules.{placeOf, rowOf, isCommand, foundGives, ruleOf, messageWords};
@@ -23,9 +23,11 @@ pub enum Name {
     Read,
     ConfigWrite,
     ConfigRead,
+    Activate,
+    Deactivate,
 }
 
-const TABLE: [Rule; 8] = [
+const TABLE: [Rule; 10] = [
     Rule {
         code: 0x00,
         least_length: 0,
@@ -74,11 +76,23 @@ const TABLE: [Rule; 8] = [
         most_length: 2,
         last_sub_address: 0,
     },
+    Rule {
+        code: 0x24,
+        least_length: 0,
+        most_length: 0,
+        last_sub_address: 0,
+    },
+    Rule {
+        code: 0x25,
+        least_length: 0,
+        most_length: 0,
+        last_sub_address: 0,
+    },
 ];
 
 // The place of a command's row in the table.
 fn place_of(name: Name) -> usize
-    ensures { λ r. ⌜ (r ≡ placeOf name) × (r < 8) ⌝ }
+    ensures { λ r. ⌜ (r ≡ placeOf name) × (r < 10) ⌝ }
 {
     match name {
         Name::Reset => 0,
@@ -89,6 +103,8 @@ fn place_of(name: Name) -> usize
         Name::Read => 5,
         Name::ConfigWrite => 6,
         Name::ConfigRead => 7,
+        Name::Activate => 8,
+        Name::Deactivate => 9,
     }
 }
 
@@ -117,7 +133,7 @@ pub fn rule_of(code: u8) -> Found
     ensures { λ r. ⌜ foundGives r ≡ ruleOf code ⌝ }
 {
     let mut i: usize = 0;
-    while i < 8 {
+    while i < 10 {
         let rule = TABLE[i];
         if rule.code == code {
             return Found::Row(rule);

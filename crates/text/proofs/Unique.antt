@@ -10,6 +10,7 @@ use Rattle.text.specs.declared.Line.{Line}
 use Rattle.text.specs.declared.Line.the-variants.{Selected, Taken, Released, ModuleSet, Refused}
 use Rattle.text.proofs.hex_word.Reads as hex-word
 use Rattle.text.proofs.line_text.Reads as line-text
+use Rattle.text.proofs.port_line_text.Reads as port-line-text
 use Rattle.text.proofs.put_line.Reads as put-line
 use Rattle.text.proofs.record_of.Reads as record-of
 use Rattle.text.proofs.time_text.Reads as time-text
@@ -42,6 +43,9 @@ one-hex-word κs a r s e f p q = p ∙ sym q
 
 pub one-line-text : (κs : _) (a : _) (r s : _) (e f : _) → line-text.Post κs a r e → line-text.Post κs a s f → r ≡ s
 one-line-text κs a r s e f p q = p ∙ sym q
+
+pub one-port-line-text : (κs : _) (a : _) (r s : _) (e f : _) → port-line-text.Post κs a r e → port-line-text.Post κs a s f → r ≡ s
+one-port-line-text κs a r s e f p q = p ∙ sym q
 
 pub one-put-line : (κs : _) (a : _) (r s : _) (e f : _) → put-line.Post κs a r e → put-line.Post κs a s f → (r ≡ s) × (now (e .0) ≡ now (f .0))
 one-put-line κs a r s e f p q = (p .0 ∙ sym (q .0), p .1 ∙ sym (q .1))

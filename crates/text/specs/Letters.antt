@@ -19,6 +19,15 @@ E = 0x45
 abbrev pub T : ℕ
 T = 0x54
 
+abbrev pub s : ℕ
+s = 0x73
+
+abbrev pub w : ℕ
+w = 0x77
+
+abbrev pub r : ℕ
+r = 0x72
+
 abbrev pub Space : ℕ
 Space = 0x20
 

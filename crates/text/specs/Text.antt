@@ -1,6 +1,6 @@
 -- The text of the trace program's lines, as bytes.
 use Prim.Native.Nat.{ℕ, _+_, _-_, _/_, _%_, _^_}
-use mathlib.Core.Bool.{cond}
+use mathlib.Core.Bool.{Bool, cond}
 use mathlib.Core.List.{List, [], _∷_, _++_}
 use lib.Dec.{eqb, leb, ltb}
 use lib.ListN.{length, replicate}
@@ -47,7 +47,21 @@ longest = 12
 unfoldable pub textOf : Shown → Text
 textOf s = record { bytes = lineText s ++ replicate (longest - length (lineText s)) 0; count = length (lineText s) }
 
--- lines one after the other
+-- ---- a line of a card with two ports: port 1's has a small letter
+
+-- `s`, `w` and `r` for `S`, `W` and `R`; any other letter stays
+unfoldable pub smallLetter : ℕ → ℕ
+smallLetter l = cond (eqb l letter.S) letter.s (cond (eqb l letter.W) letter.w (cond (eqb l letter.R) letter.r l))
+
+unfoldable pub portLine : Shown → Bool → List ℕ
+portLine s small = cond small (smallLetter (s .letter)) (s .letter) ∷ behindLetter s ++ letter.Newline ∷ []
+
+unfoldable pub portText : Shown → Bool → Text
+portText s small = record { bytes = portLine s small ++ replicate (longest - length (portLine s small)) 0; count = length (portLine s small) }
+
+-- ---- all lines
+
+-- one after the other
 unfoldable pub linesText : List Shown → List ℕ
 linesText [] = []
 linesText (s ∷ rest) = lineText s ++ linesText rest

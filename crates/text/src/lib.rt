@@ -7,7 +7,7 @@ ghost use Rattle.bits.specs.Bits.{digit};
 ghost use Rattle.bits.specs.Buffers.{written};
 ghost use Rattle.text.specs.Lines.{lineGives};
 ghost use Rattle.text.specs.Records.{recordOf};
-ghost use Rattle.text.specs.Text.{hexDigit, hexWord, longest, textOf, linePut, bufferWithLine, timeText};
+ghost use Rattle.text.specs.Text.{hexDigit, hexWord, longest, textOf, smallLetter, portText, linePut, bufferWithLine, timeText};
 use rules::refusal;
 use token::response::Status;
 
@@ -159,6 +159,33 @@ pub fn line_text(line: Line) -> Text
         Line::ModuleSet => module_text(),
         Line::Refused(number) => refused_text(number),
     }
+}
+
+fn small_letter(letter: u8) -> u8
+    ensures { λ r. ⌜ r ≡ smallLetter letter ⌝ }
+{
+    if letter == b'S' {
+        return b's';
+    }
+    if letter == b'W' {
+        return b'w';
+    }
+    if letter == b'R' {
+        return b'r';
+    }
+    letter
+}
+
+// The line of a card with two ports, with a small letter where it is port 1's.
+pub fn port_line_text(line: Line, small: bool) -> Text
+    ensures { λ r. ⌜ r ≡ portText (lineGives line) small ⌝ }
+{
+    let mut text = line_text(line);
+    if small {
+        let letter = text.bytes[0];
+        text.bytes[0] = small_letter(letter);
+    }
+    text
 }
 
 // Whether a text fits at a place of a buffer of so much room.

@@ -350,9 +350,9 @@ fn cross(
 fn message(going: Going, table: &[u16], memory: &mut [u16]) -> Going {
     let mut buffer = [0u16; 66];
     let mut got = [0u16; 66];
-    let now = loader::card_now(going.state);
+    let now = loader_calls::card_now(going.state);
     note(now.refusal);
-    let asked = loader::ask(going.state, table, &mut buffer);
+    let asked = loader_calls::ask(going.state, table, &mut buffer);
     note(asked.refusal);
     let count = asked.words;
     if 66 < count {
@@ -395,7 +395,7 @@ fn serve(start: Going, table: &[u16], memory: &mut [u16]) -> Going {
     let mut going = start;
     let mut left: u32 = 100032;
     while left > 0 {
-        let over = loader::all_over(going.state);
+        let over = loader_calls::all_over(going.state);
         note(over.refusal);
         if over.over {
             return going;

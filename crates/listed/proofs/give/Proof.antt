@@ -14,10 +14,10 @@ use Rattle.loader.specs.declared.LoadGiven.{LoadGiven}
 use Rattle.loader.proofs.Loader as L
 use Rattle.loader.proofs.Loader.Laws as L′
 use Rattle.loader.proofs.LoadGiven.Laws as LG′
-use Rattle.loader.proofs.give as load-give
-use Rattle.loader.proofs.give.Symbol as load-give-def
-use Rattle.loader.proofs.give.Symbol.{name as #loader·give}
-use Rattle.loader.proofs.give.Met as load-give-thm
+use Rattle.loader_calls.proofs.give as load-give
+use Rattle.loader_calls.proofs.give.Symbol as load-give-def
+use Rattle.loader_calls.proofs.give.Symbol.{name as #loader·give}
+use Rattle.loader_calls.proofs.give.Met as load-give-thm
 use Rattle.listed.specs.Listed.{noRecord, listGiven, recordsGiven}
 use Rattle.listed.specs.Steps.{storedVerdict}
 use Rattle.listed.specs.declared.CardRecord.{CardRecord}
@@ -243,5 +243,5 @@ give-spec 𝓤 H 𝓜 𝓖 𝓡 =
     by-walk 𝓤 H 𝓜 𝓖 𝓡 f.ended stayed (f.clauses 𝓤 H (𝓖 .A) (𝓜 .mem) (𝓡 .run)) code.env #listed·give code.function (code.unfolded 𝓤 H 𝓜 𝓡)
     (goes-slice 𝓤 H (𝓖 .A) (givenOf 𝓤 H 𝓜 𝓖) 2 0 tt (plain (λ _. T.the-row)), (goes-none 𝓤 H (𝓖 .A) (givenOf 𝓤 H 𝓜 𝓖) 2 (λ _. L.the-row) yes (λ κs x f. refl), (goes-none-slice 𝓤 H (𝓖 .A) (givenOf 𝓤 H 𝓜 𝓖) 2 (1 ∷ []) tt (plain (λ _. u16)) yes, tt)))
     (give-walks 𝓤 H (𝓖 .A) (givenOf 𝓤 H 𝓜 𝓖) (𝓜 .mem) (𝓡 .run) (tablesOf 𝓤 H 𝓜 (tables 𝓤 H 𝓜 𝓡 code.env))
-    (cited 𝓤 H (LoadGive 𝓤 H (𝓖 .A) (𝓜 .mem) (𝓡 .run)) 𝓜 𝓡 code.env #loader·give load-give-def.routine code.calls-loader·give (load-give-thm.met 𝓤 H 𝓜 𝓖 𝓡))
+    (cited 𝓤 H (LoadGive 𝓤 H (𝓖 .A) (𝓜 .mem) (𝓡 .run)) 𝓜 𝓡 code.env #loader·give load-give-def.routine code.calls-loader-calls·give (load-give-thm.met 𝓤 H 𝓜 𝓖 𝓡))
     (cited 𝓤 H (Note 𝓤 H (𝓖 .A) (𝓜 .mem) (𝓡 .run)) 𝓜 𝓡 code.env #listed·note note-def.routine code.calls-listed·note (note-thm.met 𝓤 H 𝓜 𝓖 𝓡)))

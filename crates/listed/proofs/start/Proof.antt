@@ -10,10 +10,10 @@ use Rattle.walks.proofs.Slices.{borrowed, slice-kept}
 use Rattle.walks.proofs.Lending.{list-at, lends-shared, back-shared, lends-row, back-row}
 use Rattle.loader.specs.Loader.{loadStarted}
 use Rattle.loader.specs.declared.LoadStarted.{LoadStarted}
-use Rattle.loader.proofs.start as load-start
-use Rattle.loader.proofs.start.Symbol as load-start-def
-use Rattle.loader.proofs.start.Symbol.{name as #loader·start}
-use Rattle.loader.proofs.start.Met as load-start-thm
+use Rattle.loader_calls.proofs.start as load-start
+use Rattle.loader_calls.proofs.start.Symbol as load-start-def
+use Rattle.loader_calls.proofs.start.Symbol.{name as #loader·start}
+use Rattle.loader_calls.proofs.start.Met as load-start-thm
 use Rattle.listed.specs.Listed.{listStarted, recordsStarted}
 use Rattle.listed.specs.Steps.{storedVerdict, seenIn}
 use Rattle.listed.specs.declared.CardRecord.{CardRecord}
@@ -159,5 +159,5 @@ start-spec 𝓤 H 𝓜 𝓖 𝓡 =
     (goes-slice 𝓤 H (𝓖 .A) (givenOf 𝓤 H 𝓜 𝓖) 1 0 tt (plain (λ _. T.the-row)), (goes-none 𝓤 H (𝓖 .A) (givenOf 𝓤 H 𝓜 𝓖) 1 (λ _. u32) yes (λ κs x f. refl), tt))
     (start-walks 𝓤 H (𝓖 .A) (givenOf 𝓤 H 𝓜 𝓖) (𝓜 .mem) (𝓡 .run) (tablesOf 𝓤 H 𝓜 (tables 𝓤 H 𝓜 𝓡 code.env))
     (cited 𝓤 H (Look 𝓤 H (𝓖 .A) (givenOf 𝓤 H 𝓜 𝓖) (𝓜 .mem) (𝓡 .run)) 𝓜 𝓡 code.env #listed·look look-def.routine code.calls-listed·look (look-thm.met 𝓤 H 𝓜 𝓖 𝓡))
-    (cited 𝓤 H (LoadStart 𝓤 H (𝓖 .A) (givenOf 𝓤 H 𝓜 𝓖) (𝓜 .mem) (𝓡 .run)) 𝓜 𝓡 code.env #loader·start load-start-def.routine code.calls-loader·start (load-start-thm.met 𝓤 H 𝓜 𝓖 𝓡))
+    (cited 𝓤 H (LoadStart 𝓤 H (𝓖 .A) (givenOf 𝓤 H 𝓜 𝓖) (𝓜 .mem) (𝓡 .run)) 𝓜 𝓡 code.env #loader·start load-start-def.routine code.calls-loader-calls·start (load-start-thm.met 𝓤 H 𝓜 𝓖 𝓡))
     (cited 𝓤 H (NoteAll 𝓤 H (𝓖 .A) (givenOf 𝓤 H 𝓜 𝓖) (𝓜 .mem) (𝓡 .run)) 𝓜 𝓡 code.env #listed·note-all note-all-def.routine code.calls-listed·note-all (note-all-thm.met 𝓤 H 𝓜 𝓖 𝓡)))

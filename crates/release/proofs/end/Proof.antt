@@ -4,7 +4,7 @@ use mathlib.Core.Bool.{false}
 use mathlib.Core.Path.{_≡_, refl, sym, ap, _∙_}
 use borrow.Author.Needs.{needs}
 use Rattle.token.specs.Response.{anySet}
-use Rattle.card.specs.Release.{silent, judged, ended, writes, endedMemory}
+use Rattle.card.specs.Release.{silent, judged, isAccepted, ended, writes, endedMemory}
 use Rattle.card.proofs.Laws.{accepted-tick, accepted-write}
 use Rattle.release.proofs.end.Statement.{statement}
 use Rattle.release.proofs.end.Tie as tie
@@ -32,11 +32,11 @@ accepted : (c : tie.Else2) →
 accepted c = judgement (c .before) ∙ c .if2 .left
 
 returns : tie.Need-returns
-unfolding ended endedMemory writes
+unfolding ended endedMemory writes isAccepted
 returns c = rw (silence (c .before .before .before) ∙ c .before .before .if1 .taken) (cc, refl)
 
 returns-2 : tie.Need-returns-2
-unfolding ended endedMemory writes
+unfolding ended endedMemory writes isAccepted
 returns-2 c =
     rw (loud (c .before .before .before .before), judgement (c .before .before) ∙ c .before .if2 .taken) (cc, refl)
 
@@ -51,7 +51,7 @@ act-requires c κs =
     accepted-tick (s .args .card) (s .args .left) (accepted (c .before .before .before .before))
 
 returns-3 : tie.Need-returns-3
-unfolding ended endedMemory writes
+unfolding ended endedMemory writes isAccepted
 returns-3 c =
     let passed = c .before .before .before .before .before in
     rw (loud (passed .before .before .before), accepted passed) (c .act .ensures, c .before .before .before .store .ensures)

@@ -21,10 +21,10 @@ unfolding rowIn
 next-row l i code d h = rw (add-one, drop-cons l i d h)
 
 abbrev Inv-loop : tie.InvT-loop
-Inv-loop code i₀ i = (i ≤ 8) × (ruleOf code ≡ rowIn (drop i table) code)
+Inv-loop code i₀ i = (i ≤ 10) × (ruleOf code ≡ rowIn (drop i table) code)
 
 abbrev μ-loop : tie.MeasureT-loop
-μ-loop code i₀ i = 8 - i
+μ-loop code i₀ i = 10 - i
 
 loop-holds : tie.Need-loop-holds Inv-loop μ-loop
 unfolding ruleOf
@@ -48,7 +48,7 @@ returns-2 : tie.Need-returns-2 Inv-loop μ-loop
 unfolding table rowIn
 returns-2 c =
     let m = c .before in
-    let end : m .loop .i ≡ 8 = omega arith in
+    let end : m .loop .i ≡ 10 = omega arith in
     sym (m .loop .inv .1 ∙ ap (λ (n : ℕ). rowIn (drop n table) (m .before .args .code)) end)
 
 pub rule-of-spec : {M : Type 1} → statement M

@@ -1,0 +1,10 @@
+pub mod AtPins
+pub mod Barred
+pub mod InWords
+pub mod PinsBeside
+pub mod Plays
+pub mod Theorem
+pub mod Timed
+pub mod Walk
+pub mod WholePlays
+pub mod WordsBeside

@@ -1,0 +1,3 @@
+pub mod OnePortPins
+pub mod PortPins
+pub mod Run

@@ -1,0 +1,11 @@
+pub mod Alone
+pub mod Cases
+pub mod Common
+pub mod Dead
+pub mod Drift
+pub mod Frame
+pub mod Held
+pub mod OnePort
+pub mod Ranges
+pub mod Refusals
+pub mod Sound

@@ -1,0 +1,4 @@
+pub mod OnePort
+pub mod Ports
+pub mod Run
+pub mod State
