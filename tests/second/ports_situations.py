@@ -150,7 +150,7 @@ def reset_while_the_other_is_open(played, span):
 
 
 def own_last_token(played, span):
-    """READBACK where the other port's last token is another one, and newer."""
+    """READBACK where the other port's last token is another one."""
     ports = played.moments[span.select].ports
     return code_of(span) == READBACK and is_accepted(played, span) and ports[0].last_token != ports[1].last_token
 

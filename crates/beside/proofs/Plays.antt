@@ -151,11 +151,15 @@ busy = pairs (
     ++ says readbackCommand [] ++ messageInWords (cutRead 31) ++ messageInWords [] ++ (SetModule false 6 ∷ [])
     ++ says (ticks 4) [] ++ says (ticks 5) [] ++ messageInWords flippedWrite)
 
+-- at the pins a DEACTIVATE with one bit too many too, which is not accepted
+abbrev pub oneBitMore : List Bool
+oneBitMore = lineOf (command (deactivate .code) 0 0) [] ++ (false ∷ [])
+
 unfoldable pub busyAtPins : List (List PinCall)
 busyAtPins = pairs (
     saysAtPins (ticks 3) [] ++ saysAtPins (reads 2) [] ++ saysAtPins activates [] ++ messageAtPins (cutRead 27) ++ (SetsModule true 9 ∷ SetsModule true 5 ∷ [])
     ++ saysAtPins readbackCommand [] ++ messageAtPins (cutRead 47) ++ (SetsModule false 6 ∷ [])
-    ++ saysAtPins (ticks 4) [] ++ messageAtPins (cutRead 27) ++ saysAtPins (ticks 5) [] ++ messageAtPins flippedWrite)
+    ++ saysAtPins (ticks 4) [] ++ messageAtPins oneBitMore ++ saysAtPins (ticks 5) [] ++ messageAtPins (cutRead 58))
 
 -- what is accepted of it, at words and at pins
 abbrev pub busyCodes : List ℕ

@@ -2,7 +2,8 @@
 -- message too, as long as no WRITE, CONFIG, RESET or DEACTIVATE of the other port is accepted between the first select and the last release.
 --
 -- It is demand 3 of the crates delivery and loading, for two more sides, `besideOn portsInWords p` and `besideOn portsAtPins p`, with that premise
--- over what the other port has accepted. Time, STF and module state may change meanwhile, so nothing is said of them (`alone` is false).
+-- over what the other port has accepted. What it does before the first select, and what is noted at the start, is under the premise too: start behind
+-- it, with nothing noted. Time, STF and module state may change meanwhile, so nothing is said of them (`alone` is false).
 -- The proofs are `delivery-beside`, `undamaged-beside`, `odd-base-beside`, `loading-beside` for words, and the same with `-at-pins` for pins, all
 -- of proofs/Theorem.antt. Plays with one of these commands of the other port, which each break the claim or its undamaged half, are computed in
 -- proofs/Plays.antt.
@@ -160,7 +161,7 @@ module _ (layer : Layer) (codes : List ℕ) (p : ℕ) where
       → let end = sureWrite (besideOn layer p) s memory sub block b d calls in
       NoneOf codes (end .side .accepted) → NeverDone memory end
 
-  -- a load: the premise spans each card's whole load
+  -- a load by the same port of every card: the premise is for all cards, and spans each one's whole load
   abbrev pub LoadingBeside : Type 0
   LoadingBeside = (cards : List (Before (Beside layer))) (table : List ℕ) (passages : Passages)
       → EachMeets (besideOn layer p) cards → AreWords table → listStarted (entries cards) (length table) .refusal ≡ refusal.None

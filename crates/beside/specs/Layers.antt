@@ -26,7 +26,7 @@ pub record Did (S : Type 0) : Type 0 where
   pub refusal : ℕ
 
 -- its states and the two-port card in them, those that were run from power-up, its calls, what a call on a port does with the card's memory, the
--- code of the command that it accepts, and the calls of a whole message
+-- code of the command that it accepts, how it takes a module-state call, and the calls of a whole message
 pub record Layer : Type 1 where
   pub State : Type 0
   pub ports : State → Ports

@@ -13,7 +13,7 @@ use text::Record;
 use text::kind;
 use two_pins::PortPins;
 
-// Ports in a kind.
+// How many kinds each port has.
 const PORTS: u8 = 16;
 
 const PUT: u8 = 5;

@@ -1,5 +1,5 @@
--- What a call does to all that the ports have in common. A call on a port leaves STF and module state, which the module call alone sets. The bases
--- are moved by the release of a live and accepted RESET, CONFIG WRITE or CONFIG READ, and by nothing else: CONFIG sets its own base and leaves the
+-- What a call does to STF, module state and the bases, which the ports have in common. A call on a port leaves STF and module state, which the module
+-- call alone sets; that one leaves the bases (`module-drifts` of Drift.antt). The bases are moved by the release of a live and accepted RESET, CONFIG WRITE or CONFIG READ, and by nothing else: CONFIG sets its own base and leaves the
 -- other as it stands by then. RESET leaves which ports are active, and the other port's record.
 -- Assumes nothing.
 use Prim.Native.Nat.{ℕ}
