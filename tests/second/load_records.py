@@ -11,7 +11,7 @@ from functools import lru_cache
 from itertools import product
 
 from .draw import Draw
-from .refused_records import alone, each_once, message_words, near, packed_call, pairs
+from .refused_records import alone, each_once, gathered, message_words, near, packed_call, pairs
 from .unit_records import BLOCK
 
 LoadStart = namedtuple("LoadStart", "cards least most length")
@@ -227,8 +227,4 @@ def all_records():
         starts, starts_turned_round, starts_without_cards, which_cards, all_asked, all_given, list_numbers, list_tables,
         list_wrong_sizes, list_orders,
     )
-    records = [record for group in groups for record in group()]
-    draw = Draw(15)
-    for _ in range(4):
-        records += drawn(draw)
-    return each_once(records)
+    return each_once(gathered(groups, drawn, Draw(15), 4))

@@ -14,7 +14,8 @@ from itertools import combinations, product
 from .draw import Draw
 from .ports_records import PORTS, other
 from .refused_records import (
-    AT_PINS, CLOCK, LENDING, MODULE, RELEASE, SELECT, TAKE, TELL, alone, each_once, near, packed_call,
+    AT_PINS, CLOCK, LENDING, MODULE, RELEASE, SELECT, TAKE, TELL, alone, each_once, gathered, near,
+    packed_call,
 )
 
 FLAGS = "active0 active1 selected0 selected1 dropped0 dropped1"
@@ -246,8 +247,4 @@ def all_records():
         every_state, edges_of_states, edges_of_shifters, memories, arguments, other_numbers, orders, words_told,
         verdicts, bits_clocked,
     )
-    records = [record for group in groups for record in group()]
-    draw = Draw(14)
-    for _ in range(60):
-        records += drawn(draw)
-    return each_once(records)
+    return each_once(gathered(groups, drawn, Draw(14), 60))

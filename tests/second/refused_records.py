@@ -295,16 +295,21 @@ def each_once(records):
     return [record for _, record in dict.fromkeys((type(record), record) for record in records)]
 
 
+def gathered(groups, drawn, draw, times):
+    """The records of all groups, and behind them those of so many draws."""
+    records = [record for group in groups for record in group()]
+    for _ in range(times):
+        records += drawn(draw)
+    return records
+
+
 @lru_cache(maxsize=None)
 def all_records():
     groups = (
         power_ups, built_messages, answers, starts, asked, given, verdicts, card_states, card_memories, open_and_closed,
         card_arguments, response_words, card_orders, shifters, at_the_pins, first_and_last_bits,
     )
-    records = [record for group in groups for record in group()]
-    draw = Draw(13)
-    for _ in range(6):
-        records += drawn(draw)
+    records = gathered(groups, drawn, Draw(13), 6)
     records += with_a_word_told(records)
     # Behind the drawn ones, so that those keep their places.
     counted = counted_words()
