@@ -10,13 +10,15 @@ from pathlib import Path
 sys.dont_write_bytecode = True  # leave no __pycache__ in the repository
 
 from second import (
-    apart, known, pins, port_refusals, ports, ports_pins, refused_calls, sure, trace, unit, vector_records,
+    apart, known, marks, pins, port_refusals, ports, ports_pins, refused_calls, sure, trace, unit, vector_records,
 )
 
 # Each file and its maker, which gives the number of records and the content.
 FILES = [
     ("crates/token_vectors/stdin", vector_records.stdin),
     ("crates/token_vectors/stdout", vector_records.stdout),
+    ("crates/marks/stdin", marks.stdin),
+    ("crates/marks/stdout", marks.stdout),
     ("crates/trace/stdin", trace.example_stdin),
     ("crates/trace/stdout", trace.example_stdout),
     ("crates/trace_pins/stdin", trace.pins_stdin),
@@ -78,6 +80,8 @@ def main(arguments):
     if arguments not in ([], ["--write"]):
         sys.exit(__doc__)
     known.self_test()
+    vector_records.self_test()
+    marks.self_test()
     pins.self_test()
     trace.self_test()
     apart.self_test()

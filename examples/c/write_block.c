@@ -55,7 +55,8 @@ static void print_response(uint16_t word1, uint16_t word2) {
 
     printf("response %04X %04X: ", (unsigned)word1, (unsigned)word2);
     if (!SPI2_GOOD(response)) {
-        printf("not good\n");
+        printf("not good, wrong:%s%s%s\n", SPI2_WRONG_PREFIX(response) ? " prefix" : "",
+               SPI2_WRONG_SPARE(response) ? " spare" : "", SPI2_WRONG_CRC4(response) ? " CRC-4" : "");
         return;
     }
     printf("STF %u, ME %u, AR %u, IC %u, module state %u\n", (unsigned)SPI2_STF(response), (unsigned)SPI2_ME(response),
@@ -76,10 +77,13 @@ int main(void) {
     /* A length above 63 is refused. */
     build_write(message, block, 64, SUB_ADDRESS);
 
-    /* What a card may have sent: all well; ME, after a damaged message; a token that was damaged itself. */
+    /* What a card may have sent: all well; ME, after a damaged message; tokens that were damaged themselves, in the
+     * CRC-4, in the spare, and by a line that stays at one. */
     print_response(0x8000, 0x8780);
     print_response(0x9000, 0x878D);
     print_response(0x9000, 0x878C);
+    print_response(0x9000, 0x879D);
+    print_response(0xFFFF, 0xFFFF);
 
     /* The WRITE's own token, as a READBACK brings it back. */
     uint32_t command = spi2_read_command(SPI2_TOKEN(0x4DC3, 0x4439));

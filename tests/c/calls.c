@@ -22,11 +22,11 @@ static struct {
 
     {"read_command", "good", 1000, 0},    {"read_command", "flipped", 1000, 0},  {"read_command", "check", 1000, 0},
     {"read_command", "prefix", 2000, 0},  {"read_command", "spare", 2000, 0},    {"read_command", "other", 1000, 0},
-    {"read_command", "filled", 2, 0},     {"read_command", "drawn", 2000, 0},
+    {"read_command", "filled", 2, 0},     {"read_command", "drawn", 2000, 0},    {"read_command", "marks", 1800, 0},
 
     {"read_response", "good", 1000, 0},   {"read_response", "flipped", 1000, 0}, {"read_response", "check", 1000, 0},
     {"read_response", "prefix", 2000, 0}, {"read_response", "spare", 2000, 0},   {"read_response", "other", 1000, 0},
-    {"read_response", "filled", 2, 0},    {"read_response", "drawn", 2000, 0},
+    {"read_response", "filled", 2, 0},    {"read_response", "drawn", 2000, 0},   {"read_response", "marks", 1800, 0},
 
     {"payload_check", "even", 1000, 0},   {"payload_check", "odd", 1000, 0},     {"payload_check", "empty", 16, 0},
     {"payload_check", "null", 1, 0},      {"payload_check", "unaligned", 300, 0}, {"payload_check", "zeros", 300, 0},
@@ -34,6 +34,10 @@ static struct {
     {"payload_check", "long_odd", 3, 0},  {"payload_check", "one_bit", 720, 0},
 };
 enum { KINDS = sizeof kinds / sizeof kinds[0] };
+
+/* The sets of wrong marks that each reader has answered with, by their number. */
+enum { SETS = 8 };
+static int command_sets[SETS], response_sets[SETS];
 
 /* The header's command codes. */
 static struct {
@@ -97,12 +101,28 @@ static void command_token(void) {
           && SPI2_SUB_ADDRESS(command) == sub_address);
 }
 
+/* What every reader's answer is: good by bit 31 and without a wrong mark, or a set of them without fields. */
+static void good_or_wrong(uint32_t answer, int *sets) {
+    int good = answer >> 31 == 1;
+    uint32_t wrong = good ? 0 : answer;
+    holds(SPI2_GOOD(answer) == good && !SPI2_IS_REFUSAL(answer) && wrong < SETS && (wrong != 0) == !good);
+    holds(SPI2_WRONG_PREFIX(answer) == wrong / 4 && SPI2_WRONG_SPARE(answer) == wrong / 2 % 2
+          && SPI2_WRONG_CRC4(answer) == wrong % 2);
+    if (good) {
+        return;
+    }
+    sets[wrong] = 1;
+    holds(SPI2_CODE(answer) == 0 && SPI2_LENGTH(answer) == 0 && SPI2_SUB_ADDRESS(answer) == 0);
+    holds(SPI2_STF(answer) == 0 && SPI2_ME(answer) == 0 && SPI2_AR(answer) == 0 && SPI2_IC(answer) == 0
+          && SPI2_MODULE_STATE(answer) == 0);
+}
+
 static void read_command(void) {
     uint32_t token = hex(), expected = hex();
     uint32_t answer = spi2_read_command(token);
     same(answer, expected);
 
-    holds(SPI2_GOOD(answer) == (answer != 0) && !SPI2_IS_REFUSAL(answer));
+    good_or_wrong(answer, command_sets);
     holds(!SPI2_GOOD(answer) || spi2_command_token(SPI2_CODE(answer), SPI2_LENGTH(answer), SPI2_SUB_ADDRESS(answer)) == token);
 }
 
@@ -111,7 +131,7 @@ static void read_response(void) {
     uint32_t answer = spi2_read_response(token);
     same(answer, expected);
 
-    holds(SPI2_GOOD(answer) == (answer != 0) && !SPI2_IS_REFUSAL(answer));
+    good_or_wrong(answer, response_sets);
     holds(!SPI2_GOOD(answer)
           || (SPI2_STF(answer) == (token >> 29 & 1) && SPI2_ME(answer) == (token >> 28 & 1) && SPI2_AR(answer) == (token >> 27 & 1)
               && SPI2_IC(answer) == (token >> 26 & 1) && SPI2_MODULE_STATE(answer) == (token >> 16 & 15)));
@@ -184,6 +204,16 @@ static void count_kind(void) {
 
 /* ---- the list */
 
+/* That a reader has answered with every set of wrong marks. */
+static void every_set(const char *reader, const int *sets) {
+    for (int set = 1; set < SETS; set++) {
+        if (!sets[set]) {
+            fprintf(stderr, "calls: no case of %s with the wrong marks %d\n", reader, set);
+            exit(1);
+        }
+    }
+}
+
 /* That each kind of case was there, and then how many of each call. */
 static void finish(unsigned long said) {
     unsigned long of_call = 0;
@@ -203,6 +233,8 @@ static void finish(unsigned long said) {
             exit(1);
         }
     }
+    every_set("read_command", command_sets);
+    every_set("read_response", response_sets);
     printf("calls: %lu cases agree:", number);
     for (int i = 0; i < KINDS; i++) {
         of_call += kinds[i].seen;

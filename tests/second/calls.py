@@ -1,4 +1,5 @@
-"""The cases of tests/c: calls of the flight computer's C program, each with the answer that document 01 asks for.
+"""The cases of tests/c: calls of the flight computer's C program, each with the answer that document 01 and request 6
+ask for.
 
 From the folder tests: python3 -m second.calls > FILE. A case is a line, numbers in hex but for the counts:
 
@@ -19,9 +20,10 @@ from itertools import product
 
 from . import tokens
 from .checks import crc16
+from .damaged_tokens import CHECK, COMMAND_SPARE, PREFIX, RESPONSE_SPARE
+from .damaged_tokens import drawn_flips, each_wrong_set, flipped, one_bit_flips, wrong_mark
 from .draw import Draw
-from .vector_records import CHECK, COMMAND_SPARE, PREFIX, RESPONSE_SPARE
-from .vector_records import drawn_flips, every_response_token, flipped, one_bit_flips, wrong_mark
+from .vector_records import every_response_token
 
 ARGUMENT = 5
 GOOD = 1 << 31
@@ -49,10 +51,15 @@ def command_token(code, length, sub_address):
     return refusal(ARGUMENT) if token is None else packed(token)
 
 
+def not_good(wrong):
+    """The answer for a token with these wrong marks."""
+    return 4 * wrong.prefix + 2 * wrong.spare + wrong.check
+
+
 def read_command(token):
     fields = tokens.read_command(*token)
     if fields is None:
-        return 0
+        return not_good(tokens.command_wrong(*token))
     code, length, sub_address = fields
     return GOOD | code << 16 | length << 8 | sub_address
 
@@ -60,7 +67,7 @@ def read_command(token):
 def read_response(token):
     fields = tokens.read_response(*token)
     if fields is None:
-        return 0
+        return not_good(tokens.response_wrong(*token))
     stf, me, ar, ic, module_state = fields
     return GOOD | stf << 7 | me << 6 | ar << 5 | ic << 4 | module_state
 
@@ -115,6 +122,8 @@ def read_tokens(draw, good, other, spare):
     for token in good[:60]:
         for flips in one_bit_flips():
             yield "flipped", flipped(token, flips)
+        for damaged in each_wrong_set(draw, token, spare):
+            yield "marks", damaged
     for token in other:
         yield "other", token
     for _ in range(1000):

@@ -8,7 +8,7 @@ from .addresses import is_odd, word_address
 from .checks import crc16
 from .tokens import (
     CONFIG_READ, CONFIG_WRITE, READ, READBACK, RESET, ROWS, SYNCH, TICK, WRITE,
-    command_marks, command_token, field, read_command, response_token,
+    command_token, command_wrong, field, read_command, response_token,
 )
 
 # The status bits in the order ME, AR, IC.
@@ -98,8 +98,8 @@ def whole_message(card, words, left, memories):
 
 def good_token(card, words, left):
     """Step 1."""
-    prefix_right, spare_right, check_right = command_marks(*words[:2])
-    return int(not check_right), 0, int(not (prefix_right and spare_right))
+    prefix, spare, check = command_wrong(*words[:2])
+    return int(check), 0, int(prefix or spare)
 
 
 def as_row_asks(card, words, left):

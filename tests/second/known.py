@@ -1,12 +1,13 @@
-"""The values printed in document 01, some of requests 2, 3 and 5 worked by hand, and the test of this program against
-them."""
+"""The values printed in document 01, some of requests 2, 3, 5 and 6 worked by hand, and the test of this program
+against them."""
 
 from .addresses import base_of
 from .card import AR, CLEAN, IC, ME, Card, exchanged, judge, take, tell, whole_message
 from .checks import crc4, crc16
 from .tokens import (
     ACTIVATE, CONFIG_WRITE, DEACTIVATE, NO_COMMAND, READ, READBACK, RESET, ROWS, SYNCH, TICK, WRITE,
-    command_marks, command_token, read_command, read_response, response_marks, response_token,
+    command_marks, command_token, command_wrong, read_command, read_response, response_marks, response_token,
+    response_wrong,
 )
 from .trace_records import config_write, read, write
 
@@ -35,6 +36,47 @@ RESPONSES = [
     ((0, 0, 0, 0, 0), (0x8000, 0x8780)),
     ((0, 1, 0, 0, 0), (0x9000, 0x878D)),
     ((0, 1, 0, 1, 0), (0x9400, 0x8783)),
+]
+
+COMMAND_WORDS = [words for _, words in COMMANDS]
+RESPONSE_WORDS = [words for _, words in RESPONSES]
+
+# Request 6: words, and which of prefix, spare and CRC-4 are wrong of them as a command token. One flipped bit makes the
+# CRC-4 wrong as well; two flipped bits 15 places apart leave it right, since x^15 leaves 1 by x^4 + x + 1.
+WRONG_COMMANDS = [
+    ((0x4DC3, 0x4438), (0, 0, 1)),
+    ((0x0DC3, 0x4439), (1, 0, 1)),
+    ((0x4DC3, 0x0439), (1, 0, 1)),
+    ((0x4D83, 0x4439), (0, 1, 1)),
+    ((0x4DC3, 0x4429), (0, 1, 1)),
+    # Bits 15 and 0 of word 1; bit 7 of word 1 and bit 8 of word 2; all four; and the lowest bit of the CRC-4 too.
+    ((0xCDC2, 0x4439), (1, 0, 0)),
+    ((0x4D43, 0x4539), (0, 1, 0)),
+    ((0xCD42, 0x4539), (1, 1, 0)),
+    ((0xCD42, 0x4538), (1, 1, 1)),
+    # The CRC-4 of zeros is 0, that of ones is hex C. The spare of ones is right here.
+    ((0x0000, 0x0000), (1, 1, 0)),
+    ((0xFFFF, 0xFFFF), (1, 0, 1)),
+    # A good response.
+    ((0x8000, 0x8780), (1, 1, 0)),
+]
+
+# The same of them as a response token.
+WRONG_RESPONSES = [
+    ((0x9000, 0x878C), (0, 0, 1)),
+    ((0xD000, 0x878D), (1, 0, 1)),
+    ((0x9000, 0xC78D), (1, 0, 1)),
+    ((0x9010, 0x878D), (0, 1, 1)),
+    ((0x9000, 0x879D), (0, 1, 1)),
+    ((0x9000, 0xA78D), (0, 1, 1)),
+    # Bit 14 of word 1 and bit 15 of word 2; bit 9 of word 1 and bit 10 of word 2; all four.
+    ((0xD000, 0x078D), (1, 0, 0)),
+    ((0x9200, 0x838D), (0, 1, 0)),
+    ((0xD200, 0x038D), (1, 1, 0)),
+    ((0x0000, 0x0000), (1, 1, 0)),
+    ((0xFFFF, 0xFFFF), (1, 1, 1)),
+    # A good command.
+    ((0x4DC3, 0x4439), (1, 1, 0)),
 ]
 
 # words, their CRC-16
@@ -108,6 +150,15 @@ def test_responses():
         agree(f"{words} as a command", read_command(*words), None)
 
 
+def test_wrong_marks():
+    for words, wrong in WRONG_COMMANDS:
+        agree(f"wrong marks of {words} as a command", command_wrong(*words), wrong)
+        agree(f"command fields of {words}", read_command(*words), None)
+    for words, wrong in WRONG_RESPONSES:
+        agree(f"wrong marks of {words} as a response", response_wrong(*words), wrong)
+        agree(f"response fields of {words}", read_response(*words), None)
+
+
 def test_checks():
     for words, check in CHECKS:
         agree(f"CRC-16 of {words}", crc16(words), check)
@@ -170,6 +221,7 @@ def self_test():
     """Raises AssertionError where a value of the documents is not met."""
     test_commands()
     test_responses()
+    test_wrong_marks()
     test_checks()
     test_table()
     test_judgement()

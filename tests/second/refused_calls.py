@@ -1,5 +1,6 @@
 """What `refused_calls` answers to its stored records: single calls, each with its refusal number and what it left."""
 
+from functools import lru_cache
 from itertools import combinations, product
 from typing import NamedTuple
 
@@ -7,13 +8,14 @@ from . import load_calls, load_records, refused_records
 from .call_answers import ARGUMENT, CLOSED, COUNT, MOST_SIZE, OPEN, ROOM, SIZE, STATE, TURN, check, refusal
 from .card import CLEAN, Card, Message, release, take, tell, with_module
 from .checks import crc16
+from .damaged_tokens import test_sets
 from .refused_records import (
     AT_PINS, BIT, CLEAR, CLOCK, DONE, LEFT_OVER, LENDING, MODULE, NOT_TOLD, NOTED, NOTES, RELEASE, SELECT, TAKE, TAKEN,
     TELL, TOLD, UNSURE, Ask, Build, CardCall, Give, PinCall, PowerUp, Read, Shift, Start, Verdict, kind_of_call,
     message_words,
 )
 from .sure import read_back
-from .tokens import READ, READBACK, WRITE, command_token, read_command, read_response
+from .tokens import READ, READBACK, WRITE, command_token, read_command, response_wrong
 from .trace_records import with_answer, with_payload
 
 MOST_RECEIVED = 67
@@ -49,12 +51,15 @@ def build(code, length, sub_address, block, room):
 
 def read(length, count, *words):
     number = refusal({ARGUMENT: length > 63, COUNT: count != message_words(length)})
+    if number:
+        return number, 0, 0, 0, 0, 0, 0
     words = given_words(count, *words)
-    if number or read_response(*words[:2]) is None:
-        return number, 0, 0, 0
+    wrong = response_wrong(*words[:2])
+    if any(wrong):
+        return 0, 0, 0, *map(int, wrong), 0
     # Length 0 has neither payload nor check: nothing can disagree.
     good = length == 0 or crc16(words[2:-1]) == words[-1]
-    return 0, 1, int(good), length if good else 0
+    return 0, 1, int(good), 0, 0, 0, length if good else 0
 
 
 def start(length, sub_address):
@@ -201,15 +206,20 @@ def line(record):
     return " ".join([letter, *map(str, answer(record))])
 
 
+@lru_cache(maxsize=None)
 def all_records():
-    """The loader's come last, so that the others keep their places."""
-    return refused_records.all_records() + load_records.all_records()
+    """The loader's come behind the others, and request 6's behind them, so that those before keep their places."""
+    records = refused_records.all_records() + load_records.all_records()
+    return refused_records.each_once(records + refused_records.answers_with_bad_tokens())
+
+
+def packed(record):
+    makers = load_records if type(record) in load_records.OPERATIONS else refused_records
+    return makers.packed(record)
 
 
 def stdin():
-    packed = [*map(refused_records.packed, refused_records.all_records())]
-    packed += map(load_records.packed, load_records.all_records())
-    return len(packed), b"".join(packed)
+    return len(all_records()), b"".join(map(packed, all_records()))
 
 
 def stdout():
@@ -265,6 +275,12 @@ def test_refusals(kind, records):
         raise AssertionError(f"{kind}: no record with both of {sorted(map(sorted, lacking))}")
 
 
+def test_wrong_marks(records):
+    """Answers with each set of wrong marks are read."""
+    answers = [answer(record) for record in records]
+    test_sets("answers", [tuple(wrong) for number, _, _, *wrong, _ in answers if not number])
+
+
 def test_room(record):
     """The program has room for what a record lends."""
     operation, call = kind_of_call(record)
@@ -303,8 +319,8 @@ def test_running_check(record):
 
 
 def self_test():
-    """Raises AssertionError where a refusal is not met, or a record is too large, or a note or the running check does
-    what it must not, or two operations have one letter, or the loader's lack something."""
+    """Raises AssertionError where a refusal or a set of wrong marks is not met, or a record is too large, or a note or
+    the running check does what it must not, or two operations have one letter, or the loader's lack something."""
     kinds = {}
     for record in all_records():
         test_room(record)
@@ -320,4 +336,5 @@ def self_test():
         raise AssertionError(f"only wanted, or only met: {kinds.keys() ^ REFUSALS.keys()}")
     for kind, records in kinds.items():
         test_refusals(kind, records)
+    test_wrong_marks(kinds[Read, 0])
     load_calls.self_test()

@@ -11,8 +11,9 @@ from collections import namedtuple
 from functools import lru_cache
 from itertools import combinations
 
+from .damaged_tokens import RESPONSE_SPARE, each_wrong_set
 from .draw import Draw
-from .tokens import CONFIG_READ, PORT_COMMANDS, READ, READBACK, WRITE
+from .tokens import CONFIG_READ, PORT_COMMANDS, READ, READBACK, WRITE, response_token
 
 PowerUp = namedtuple("PowerUp", "size")
 Build = namedtuple("Build", "code length sub_address block room")
@@ -127,6 +128,22 @@ def answers():
     records += alone(lawful, length=(2, 4, 0x0103, 65535), count=(0, 1, 2, 100))
     records += alone(lawful, first=(0, 0x8001, 0x40C0), second=(0x8781, 0xFFFF))
     return records + pairs(lawful, length=64, count=5, first=0, further=1)
+
+
+def bad_tokens(draw, answer):
+    """The answer with each set of wrong marks of its token."""
+    tokens = each_wrong_set(draw, (answer.first, answer.second), RESPONSE_SPARE)
+    return [answer._replace(first=first, second=second) for first, second in tokens]
+
+
+def answers_with_bad_tokens():
+    """Without a payload, with one whose check agrees and does not, and refused by Count and by Argument."""
+    draw, records = Draw(16), []
+    for token in (CLEAN_RESPONSE, response_token(0, 1, 0, 0, 0), response_token(1, 1, 1, 1, 15)):
+        records += bad_tokens(draw, Read(0, 2, *token, 0))
+        records += bad_tokens(draw, Read(3, 6, *token, 0)) + bad_tokens(draw, Read(3, 6, *token, 1))
+        records += bad_tokens(draw, Read(3, 5, *token, 0)) + bad_tokens(draw, Read(64, 67, *token, 0))
+    return records
 
 
 def starts():

@@ -1,5 +1,7 @@
 """Command and response tokens, and the table of commands."""
 
+from typing import NamedTuple
+
 from .checks import crc4
 
 RESET = 0x00
@@ -47,12 +49,25 @@ def with_check(word1, word2):
     return word1, word2 & 0xFFF0 | crc4(word1, word2)
 
 
+class Marks(NamedTuple):
+    """A truth for each mark of a token."""
+
+    prefix: bool  # bits 15-14 of both words
+    spare: bool  # every other fixed bit
+    check: bool  # the CRC-4, bits 3-0 of word 2
+
+
 def check_right(word1, word2):
     return field(word2, 3, 0) == crc4(word1, word2)
 
 
 def prefix_right(word1, word2, prefix):
     return field(word1, 15, 14) == prefix and field(word2, 15, 14) == prefix
+
+
+def wrong(right):
+    """Which marks are wrong, all that apply, from which are right."""
+    return Marks(*(not mark for mark in right))
 
 
 def command_token(code, length, sub_address):
@@ -65,9 +80,14 @@ def command_token(code, length, sub_address):
 
 
 def command_marks(word1, word2):
-    """(prefix right, spare right, check right) of a command token."""
+    """Which marks of a command token are right."""
     spare = field(word1, 7, 6) == 0b11 and field(word2, 5, 4) == 0b11
-    return prefix_right(word1, word2, 0b01), spare, check_right(word1, word2)
+    return Marks(prefix_right(word1, word2, 0b01), spare, check_right(word1, word2))
+
+
+def command_wrong(word1, word2):
+    """Request 6 (document 02): which marks of a command token are wrong."""
+    return wrong(command_marks(word1, word2))
 
 
 def read_command(word1, word2):
@@ -86,10 +106,15 @@ def response_token(stf, me, ar, ic, module_state):
 
 
 def response_marks(word1, word2):
-    """(prefix right, spare right, check right) of a response token."""
+    """Which marks of a response token are right."""
     # Every fixed bit below the prefix counts as spare, those of word 2 too.
     spare = field(word1, 9, 4) == 0 and field(word2, 13, 4) == 0x078
-    return prefix_right(word1, word2, 0b10), spare, check_right(word1, word2)
+    return Marks(prefix_right(word1, word2, 0b10), spare, check_right(word1, word2))
+
+
+def response_wrong(word1, word2):
+    """Request 6: which marks of a response token are wrong."""
+    return wrong(response_marks(word1, word2))
 
 
 def read_response(word1, word2):

@@ -2,8 +2,8 @@
 
 from .checks import crc4, crc16
 from .tokens import (
-    ROWS, command_marks, command_token, field, read_command, read_response, response_marks,
-    response_token,
+    ROWS, command_marks, command_token, command_wrong, field, read_command, read_response, response_marks,
+    response_token, response_wrong,
 )
 
 PAYLOAD, TOKEN, BUILD_COMMAND, BUILD_RESPONSE, ROW = 1, 2, 3, 4, 5
@@ -17,20 +17,27 @@ def payload_line(words):
 
 
 def marks_digits(marks):
-    return "".join("1" if right else "0" for right in marks)
+    return "".join(str(int(mark)) for mark in marks)
 
 
 def bytes_digits(numbers):
     return " ".join(f"{number:02X}" for number in numbers)
 
 
-def command_digits(fields):
-    return "-" if fields is None else bytes_digits(fields)
+def not_good_digits(wrong):
+    """Request 6: which of prefix, spare and CRC-4 are wrong."""
+    return "-" + marks_digits(wrong)
 
 
-def response_digits(fields):
+def command_digits(words):
+    fields = read_command(*words)
+    return not_good_digits(command_wrong(*words)) if fields is None else bytes_digits(fields)
+
+
+def response_digits(words):
+    fields = read_response(*words)
     if fields is None:
-        return "-"
+        return not_good_digits(response_wrong(*words))
     *flags, module_state = fields
     return "".join(str(flag) for flag in flags) + f" {module_state:X}"
 
@@ -40,9 +47,9 @@ def token_line(words):
         "T",
         f"{crc4(*words):X}",
         marks_digits(command_marks(*words)),
-        command_digits(read_command(*words)),
+        command_digits(words),
         marks_digits(response_marks(*words)),
-        response_digits(read_response(*words)),
+        response_digits(words),
     ])
 
 

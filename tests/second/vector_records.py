@@ -5,17 +5,18 @@ from itertools import product
 
 from . import known, vector_answers
 from .checks import crc16
+from .damaged_tokens import (
+    CHECK, COMMAND_SPARE, PREFIX, RESPONSE_SPARE, drawn_flips, each_wrong_set, flipped, one_bit_flips, test_sets,
+    wrong_mark,
+)
 from .draw import Draw
-from .tokens import FIRST_CODES, NO_COMMAND, PORT_COMMANDS, ROWS, command_token, response_token, with_check
+from .tokens import (
+    FIRST_CODES, NO_COMMAND, PORT_COMMANDS, ROWS, command_token, command_wrong, response_token, response_wrong,
+    with_check,
+)
 
 SEED = 1
 MOST_WORDS = 130
-
-# The bits of (word 1, word 2) that belong to each mark.
-PREFIX = (0xC000, 0xC000)
-COMMAND_SPARE = (0x00C0, 0x0030)
-RESPONSE_SPARE = (0x03F0, 0x3FF0)
-CHECK = (0x0000, 0x000F)
 
 
 def one_bit(length, place, word):
@@ -49,29 +50,6 @@ def payloads(draw):
         yield from (one_bit_payload(draw, length) for _ in range(3))
     for length in range(MOST_WORDS):
         yield from (with_check_word(draw.words(length)) for _ in range(4))
-
-
-def flipped(token, flips):
-    return token[0] ^ flips[0], token[1] ^ flips[1]
-
-
-def one_bit_flips(mask=(0xFFFF, 0xFFFF)):
-    """Each single bit of a mask over both words."""
-    places = [(1 << place, 0) for place in range(16)] + [(0, 1 << place) for place in range(16)]
-    return [flips for flips in places if flips[0] & mask[0] or flips[1] & mask[1]]
-
-
-def drawn_flips(draw, mask):
-    """One or more bits of a mask."""
-    while True:
-        flips = draw.word() & mask[0], draw.word() & mask[1]
-        if flips != (0, 0):
-            return flips
-
-
-def wrong_mark(draw, token, mask):
-    """The token with a wrong mark, but its CRC-4 made right again."""
-    return with_check(*flipped(token, drawn_flips(draw, mask)))
 
 
 def token_and_damaged(draw, token, spare):
@@ -118,15 +96,22 @@ def mixed_tokens(commands, responses):
         yield with_check(response[0], command[1])
 
 
+def each_wrong_set_of_both(draw):
+    """Each set of wrong marks, of known tokens and of drawn responses: three known ones are few."""
+    for token in known.COMMAND_WORDS:
+        yield from each_wrong_set(draw, token, COMMAND_SPARE)
+    every = [*every_response_token()]
+    for token in [*known.RESPONSE_WORDS, *(draw.pick(every) for _ in range(9))]:
+        yield from each_wrong_set(draw, token, RESPONSE_SPARE)
+
+
 def tokens(draw):
-    commands = [words for _, words in known.COMMANDS]
-    responses = [words for _, words in known.RESPONSES]
     yield from [(0x0000, 0x0000), (0xFFFF, 0xFFFF)]
-    for token in commands:
+    for token in known.COMMAND_WORDS:
         yield from token_and_each_flip(token, COMMAND_SPARE)
-    for token in responses:
+    for token in known.RESPONSE_WORDS:
         yield from token_and_each_flip(token, RESPONSE_SPARE)
-    yield from mixed_tokens(commands, responses)
+    yield from mixed_tokens(known.COMMAND_WORDS, known.RESPONSE_WORDS)
     for token in [*row_tokens(draw, FIRST_CODES), *every_code_tokens(draw)]:
         yield from token_and_damaged(draw, token, COMMAND_SPARE)
     for token in every_response_token():
@@ -138,6 +123,7 @@ def tokens(draw):
     # Behind the drawn ones, so that those keep their places.
     for token in row_tokens(draw, PORT_COMMANDS):
         yield from token_and_damaged(draw, token, COMMAND_SPARE)
+    yield from each_wrong_set_of_both(draw)
 
 
 def commands_to_build(draw):
@@ -203,3 +189,10 @@ def stdout():
     """(number of records, content) of crates/token_vectors/stdout."""
     lines = [vector_answers.line(*record) + "\n" for record in records()]
     return len(lines), "".join(lines).encode("ascii")
+
+
+def self_test():
+    """Raises AssertionError where a set of wrong marks is missing, of a kind of token."""
+    read = [words for kind, words in records() if kind == vector_answers.TOKEN]
+    test_sets("command tokens", [command_wrong(*words) for words in read])
+    test_sets("response tokens", [response_wrong(*words) for words in read])

@@ -1,7 +1,7 @@
 -- What the answer reader's tests tell.
 -- Assumes nothing.
 use Prim.Native.Nat.{ℕ, _≤_}
-use mathlib.Core.Bool.{Bool, true, false, cond, false≢true}
+use mathlib.Core.Bool.{Bool, true, false, cond, not, false≢true}
 use mathlib.Core.List.{List, [], _∷_}
 use mathlib.Core.Path.{_≡_, refl, sym, ap, _∙_}
 use borrow.Author.Tests.{eqb-true, leb-true}
@@ -13,12 +13,14 @@ use Rattle.rules.specs.Refusals as refusal
 use Rattle.rules.specs.Rules.{messageWords}
 use Rattle.token.specs.Answers.{Read}
 use Rattle.token.specs.Command.{goodCommand, commandRead, commandReadGives}
-use Rattle.token.specs.Response.{responseRead, responseReadGives}
+use Rattle.token.specs.Marks.{anyWrong}
+use Rattle.token.specs.Response.{responseMarks, goodResponse, responseWrong, responseRead, responseReadGives}
 use Rattle.token.specs.declared.command.Command.{Command}
 use Rattle.token.specs.declared.command.CommandRead.{CommandRead}
 use Rattle.token.specs.declared.response.Response.{Response}
 use Rattle.token.specs.declared.response.ResponseRead.{ResponseRead}
-use Rattle.controller.specs.Reader.{Answer, readingGives, readRefusal, tokenGood, fieldsRead, answerRead}
+use Rattle.token.proofs.Wrong.{any-wrong}
+use Rattle.controller.specs.Reader.{Answer, readingGives, readRefusal, tokenGood, tokenWrong, fieldsRead, answerRead}
 use Rattle.controller.specs.declared.Reading.{Reading}
 use Rattle.controller.specs.declared.Reading.the-variants.{Good, BadPayload, BadToken, Argument, Count}
 use Rattle.controller.proofs.MessageLaws.{passed-by}
@@ -33,11 +35,11 @@ read-passed len count h =
 
 -- what reading the first two words as a response token tells
 pub token-read : (words : List ℕ) (r q : ResponseRead) → responseReadGives r ≡ responseRead (getD words 0 0) (getD words 1 0) → r ≡ q
-    → (tokenGood words ≡ responseReadGives q .good) × (fieldsRead words ≡ responseReadGives q .fields)
-unfolding tokenGood fieldsRead
+    → (tokenGood words ≡ responseReadGives q .good) × (tokenWrong words ≡ responseReadGives q .wrong) × (fieldsRead words ≡ responseReadGives q .fields)
+unfolding tokenGood tokenWrong fieldsRead
 token-read words r q read is =
     let same : responseReadGives q ≡ responseRead (getD words 0 0) (getD words 1 0) = ap responseReadGives (sym is) ∙ read in
-    (sym (ap (λ (a : Read Response). a .good) same), sym (ap (λ (a : Read Response). a .fields) same))
+    (sym (ap (λ (a : Read Response). a .good) same), sym (ap (λ (a : Read Response). a .wrong) same), sym (ap (λ (a : Read Response). a .fields) same))
 
 -- what reading two words as a command token tells
 pub command-read : (first second : ℕ) (r q : CommandRead) → commandReadGives r ≡ commandRead first second → r ≡ q
@@ -61,6 +63,12 @@ good-count len words h =
     let passed = shown-by (eqb (readRefusal len (length words)) refusal.None) _ _ refl h in
     read-passed len (length words) (eqb-true (readRefusal len (length words)) refusal.None passed) .1
 
+-- an answer that is not refused names a wrong mark exactly where its token is bad
+pub answer-names : (len : ℕ) (words : List ℕ) → readRefusal len (length words) ≡ refusal.None
+    → anyWrong (answerRead len words .wrong) ≡ not (answerRead len words .token)
+unfolding answerRead tokenGood tokenWrong responseRead goodResponse responseWrong
+answer-names len words passed = rw passed (any-wrong (responseMarks (getD words 0 0) (getD words 1 0)))
+
 -- what the reader's answer Good tells
 pub answer-good : (r : Reading) (f : Response) (len : ℕ) (words : List ℕ) → readingGives r ≡ answerRead len words → r ≡ Good f
     → GoodAnswer f len words
@@ -72,7 +80,7 @@ answer-good r f len words read good =
 not-good : (r : Reading) → OneOf (1 ∷ 2 ∷ 3 ∷ 4 ∷ []) (tagOf the-type r) → readingGives r .payload ≡ false
 not-good (Good f) k = absurd (miss (1 ∷ 2 ∷ 3 ∷ 4 ∷ []) 0 tt k)
 not-good (BadPayload f) k = refl
-not-good BadToken k = refl
+not-good (BadToken w) k = refl
 not-good Argument k = refl
 not-good Count k = refl
 

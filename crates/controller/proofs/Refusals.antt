@@ -2,7 +2,7 @@
 -- written, nothing is read, and no verdict is said.
 -- Assumes nothing.
 use Prim.Native.Nat.{ℕ}
-use mathlib.Core.Bool.{Bool, true, false, cond}
+use mathlib.Core.Bool.{false}
 use mathlib.Core.List.{List, []}
 use mathlib.Core.Path.{_≡_, refl}
 use borrow.Author.Tests.{ne-eqb}
@@ -11,6 +11,7 @@ use lib.ListN.{length}
 use Rattle.rules.specs.Refusals as refusal
 use Rattle.rules.proofs.Cases.{refused-first, refused-second}
 use Rattle.token.specs.Command.{commandFits}
+use Rattle.token.specs.Marks.{noneWrong}
 use Rattle.token.specs.Response.{noFields}
 use Rattle.token.specs.declared.command.Command.{Command}
 use Rattle.controller.specs.Builder.{messageBuilt, bufferAfter}
@@ -29,12 +30,13 @@ build-refused f block buffer h = rw (ne-eqb _ _ h) (refl, refl)
 
 -- ---- answer reader
 
--- no token, no payload, and every field 0
+-- no token, no payload, no mark named, and every field 0
 pub read-refused : (len : ℕ) (words : List ℕ) → (answerRead len words .refusal ≡ refusal.None → ⊥)
-    → (answerRead len words .token ≡ false) × (answerRead len words .payload ≡ false) × (answerRead len words .fields ≡ noFields)
+    → (answerRead len words .token ≡ false) × (answerRead len words .payload ≡ false) × (answerRead len words .wrong ≡ noneWrong)
+    × (answerRead len words .fields ≡ noFields)
 unfolding answerRead
 read-refused len words h =
-    rw (refused-second (λ (a : Answer). a .refusal) (eqb (readRefusal len (length words)) refusal.None) _ _ refl h) (refl, refl, refl)
+    rw (refused-second (λ (a : Answer). a .refusal) (eqb (readRefusal len (length words)) refusal.None) _ _ refl h) (refl, refl, refl, refl)
 
 -- and an empty part is shown
 pub payload-refused : (len : ℕ) (words : List ℕ) → (answerRead len words .refusal ≡ refusal.None → ⊥)

@@ -1,4 +1,5 @@
 // What the controller's functions give. They stand in `builder`, `reader` and `sure`; all definitions of the controller stand here.
+use token::marks::Wrong;
 use token::response::Response;
 
 // What building a message gives: the refusal's number, 0 for none, and the number of words written.
@@ -7,11 +8,11 @@ pub struct MessageBuilt {
     pub words: usize,
 }
 
-// What reading an answer gives: which of token and payload failed, with the fields where the token is good.
+// What reading an answer gives: which of token and payload failed, with the fields where the token is good and its wrong marks where it is not.
 pub enum Reading {
     Good(Response),
     BadPayload(Response),
-    BadToken,
+    BadToken(Wrong),
     Argument,
     Count,
 }

@@ -30,7 +30,7 @@ use Rattle.token.proofs.Good.{both, good-response}
 use Rattle.token.proofs.ResponseTrip.{response-good, response-fields}
 use Rattle.card.specs.Exchange.{responseOf}
 use Rattle.card.specs.declared.Card.{Card}
-use Rattle.controller.specs.Reader.{Answer, readRefusal, tokenGood, payloadGood, fieldsRead, answerRead}
+use Rattle.controller.specs.Reader.{readRefusal, tokenGood, payloadGood, fieldsRead, answerRead}
 use Rattle.controller.specs.Sure.{readGood, passes, isToken, confirms}
 use Rattle.delivery.proofs.Judged.{response-check}
 use Rattle.delivery.proofs.Heard.{r₁, r₂, full, mute, full-long, mute-long, Got, Filled, Turned, Muted}
@@ -38,17 +38,13 @@ use Rattle.delivery.proofs.Heard.{r₁, r₂, full, mute, full-long, mu
 -- ---- what a reading of five words tells
 
 module _ (ws : List ℕ) (five : length ws ≡ 5) where
-  not-refused : answerRead 2 ws ≡ record { refusal = 0; token = tokenGood ws; payload = payloadGood 2 ws; fields = fieldsRead ws }
-  unfolding answerRead readRefusal messageWords
-  not-refused = rw five
-
   pub read-good : readGood ws ≡ (goodResponse (getD ws 0 0) (getD ws 1 0) && agrees 2 (drop 2 ws))
-  unfolding readGood payloadGood tokenGood responseRead
-  read-good = ap (λ (a : Answer). a .payload) not-refused
+  unfolding readGood answerRead readRefusal messageWords payloadGood tokenGood responseRead
+  read-good = rw (five, readGood)
 
   pub read-fields : goodResponse (getD ws 0 0) (getD ws 1 0) ≡ true → answerRead 2 ws .fields ≡ responseFields (getD ws 0 0) (getD ws 1 0)
-  unfolding fieldsRead responseRead
-  read-fields good = ap (λ (a : Answer). a .fields) not-refused ∙ rw good
+  unfolding answerRead readRefusal messageWords fieldsRead responseRead
+  read-fields good = rw (five, good)
 
   -- a first READBACK that passes has a good token
   pub passes-good : passes ws ≡ true → goodResponse (getD ws 0 0) (getD ws 1 0) ≡ true

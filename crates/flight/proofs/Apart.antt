@@ -1,19 +1,24 @@
 -- The answers of a call can be told apart: built or checked, good, "not good" and refused never coincide.
 -- Assumes nothing.
-use Prim.Native.Nat.{ℕ, _%_, _^_, _≤_, _<_}
+use Prim.Native.Nat.{ℕ, zero, suc, _+_, _*_, _%_, _^_, _≤_, _<_}
 use native.Mathlib.Omega.{arith}
-use mathlib.Core.Bool.{Bool, true, false}
+use mathlib.Core.Bool.{Bool, true, false, _||_, false≢true}
 use mathlib.Core.List.{List}
 use mathlib.Core.Logic.{_↔_}
-use mathlib.Core.Path.{_≡_, refl}
+use mathlib.Core.Path.{_≡_, refl, _∙_}
 use borrow.Author.Tests.{eq-eqb, ne-eqb, eqb-true, eqb-false}
 use lib.Dec.{eqb}
 use lib.ListN.{length}
+use Rattle.bits.specs.Bits.{digit}
+use Rattle.bits.proofs.Digits.{digit-lt}
 use Rattle.crc.proofs.Words.{crc16-lt}
 use Rattle.rules.specs.Refusals as refusal
-use Rattle.token.specs.Command.{command, commandFits, commandFirst, goodCommand}
-use Rattle.token.specs.Response.{goodResponse}
-use Rattle.flight.specs.Flight.{refused, tokenAnswer, word1, word2, commandNumber, commandAnswer, responseNumber, responseAnswer, checkAnswer}
+use Rattle.token.specs.Command.{command, commandFits, commandFirst, commandMarks, goodCommand, commandWrong}
+use Rattle.token.specs.Marks.{goodMarks, anyWrong, wrongMarks}
+use Rattle.token.specs.Response.{responseMarks, goodResponse, responseWrong}
+use Rattle.token.specs.declared.marks.Marks.{Marks}
+use Rattle.token.proofs.Wrong.{any-wrong}
+use Rattle.flight.specs.Flight.{refused, tokenAnswer, word1, word2, wrongNumber, commandNumber, commandAnswer, responseNumber, responseAnswer, checkAnswer}
 
 -- what holds of an answer in one case of a test, and not in the other, tells the test
 told : {P : Type 0} (test : Bool) → (test ≡ true → P) → (test ≡ false → P → ⊥) → P ↔ (test ≡ true)
@@ -46,28 +51,54 @@ module _ (code length sub : ℕ) where
 
 -- ---- the token readers
 
+wrong-by : (p s c : Bool) → (p || s || c) ≡ true → (1 ≤ digit p * 4 + digit s * 2 + digit c) × (digit p * 4 + digit s * 2 + digit c ≤ 7)
+wrong-by true s c h = omega (arith, digit-lt s, digit-lt c)
+wrong-by false true c h = omega (arith, digit-lt c)
+wrong-by false false true h = omega arith
+wrong-by false false false h = absurd (false≢true h)
+
+-- of a token that is not good some mark is wrong, and its number is 1 to 7
+wrong-small : (m : Marks) → goodMarks m ≡ false → (1 ≤ wrongNumber (wrongMarks m)) × (wrongNumber (wrongMarks m) ≤ 7)
+unfolding wrongNumber anyWrong
+wrong-small m bad =
+    let w = wrongMarks m in
+    wrong-by (w .prefix) (w .spare) (w .check) (any-wrong m ∙ rw bad)
+
+-- an answer with bit 31, or of 1 to 7, is neither a refusal nor 0
+apart : (good : Bool) (answer number : ℕ) → (good ≡ true → 2 ^ 31 ≤ answer) → (good ≡ false → (1 ≤ answer) × (answer ≤ 7)) → number ≤ 9
+    → answer ≡ refused number → ⊥
+apart true answer number high low most same = omega (arith, high refl)
+apart false answer zero high low most same = omega (arith, low refl)
+apart false answer (suc number) high low most same = omega (arith, low refl)
+
 module _ (t : ℕ) where
   pub command-good : goodCommand (word1 t) (word2 t) ≡ true → 2 ^ 31 ≤ commandAnswer t
   unfolding commandAnswer commandNumber
   command-good good = rw good (omega arith)
 
-  pub command-not-good : goodCommand (word1 t) (word2 t) ≡ false → commandAnswer t ≡ 0
-  unfolding commandAnswer
-  command-not-good good = rw good
+  pub command-not-good : goodCommand (word1 t) (word2 t) ≡ false → (1 ≤ commandAnswer t) × (commandAnswer t ≤ 7)
+  unfolding commandAnswer commandWrong goodCommand
+  command-not-good bad = rw bad (wrong-small (commandMarks (word1 t) (word2 t)) bad)
 
   pub command-told : (2 ^ 31 ≤ commandAnswer t) ↔ (goodCommand (word1 t) (word2 t) ≡ true)
-  command-told = told (goodCommand (word1 t) (word2 t)) command-good (λ good high. omega (arith, command-not-good good))
+  command-told = told (goodCommand (word1 t) (word2 t)) command-good (λ bad high. omega (arith, command-not-good bad))
+
+  pub command-no-refusal : (number : ℕ) → number ≤ 9 → commandAnswer t ≡ refused number → ⊥
+  command-no-refusal number = apart (goodCommand (word1 t) (word2 t)) (commandAnswer t) number command-good command-not-good
 
   pub response-good : goodResponse (word1 t) (word2 t) ≡ true → 2 ^ 31 ≤ responseAnswer t
   unfolding responseAnswer responseNumber
   response-good good = rw good (omega arith)
 
-  pub response-not-good : goodResponse (word1 t) (word2 t) ≡ false → responseAnswer t ≡ 0
-  unfolding responseAnswer
-  response-not-good good = rw good
+  pub response-not-good : goodResponse (word1 t) (word2 t) ≡ false → (1 ≤ responseAnswer t) × (responseAnswer t ≤ 7)
+  unfolding responseAnswer responseWrong goodResponse
+  response-not-good bad = rw bad (wrong-small (responseMarks (word1 t) (word2 t)) bad)
 
   pub response-told : (2 ^ 31 ≤ responseAnswer t) ↔ (goodResponse (word1 t) (word2 t) ≡ true)
-  response-told = told (goodResponse (word1 t) (word2 t)) response-good (λ good high. omega (arith, response-not-good good))
+  response-told = told (goodResponse (word1 t) (word2 t)) response-good (λ bad high. omega (arith, response-not-good bad))
+
+  pub response-no-refusal : (number : ℕ) → number ≤ 9 → responseAnswer t ≡ refused number → ⊥
+  response-no-refusal number = apart (goodResponse (word1 t) (word2 t)) (responseAnswer t) number response-good response-not-good
 
 -- ---- the payload check
 

@@ -6,12 +6,13 @@ use mathlib.Core.Path.{_≡_, refl, ap, _∙_}
 use lib.Dec.{eqb}
 use Rattle.rules.specs.Refusals as refusal
 use Rattle.token.specs.Answers.{Built, Read}
-use Rattle.token.specs.Command.{command, commandToken, tokenOf, commandFits, commandBuilt, commandRead, goodCommand, commandFields}
-use Rattle.token.specs.Response.{noFields, responseRead, goodResponse, responseFields}
+use Rattle.token.specs.Command.{command, commandToken, tokenOf, commandFits, commandBuilt, commandRead, goodCommand, commandWrong, commandFields}
+use Rattle.token.specs.Response.{noFields, responseRead, goodResponse, responseWrong, responseFields}
 use Rattle.token.specs.declared.command.Command.{Command}
 use Rattle.token.specs.declared.command.CommandToken.{CommandToken}
+use Rattle.token.specs.declared.marks.Wrong.{Wrong}
 use Rattle.token.specs.declared.response.Response.{Response}
-use Rattle.flight.specs.Flight.{refused, packed, tokenAnswer, word1, word2, commandNumber, commandAnswer, responseNumber, responseAnswer}
+use Rattle.flight.specs.Flight.{refused, packed, tokenAnswer, word1, word2, wrongNumber, commandNumber, commandAnswer, responseNumber, responseAnswer}
 
 -- ---- the builder
 
@@ -34,21 +35,21 @@ built-gives code length sub b e =
 
 module _ {Fields : Type 0} (numberOf : Fields → ℕ) where
   abbrev pub readNumber : Read Fields → ℕ
-  readNumber r = cond (r .good) (numberOf (r .fields)) 0
+  readNumber r = cond (r .good) (numberOf (r .fields)) (wrongNumber (r .wrong))
 
-  read-by : (good : Bool) (f none : Fields)
-      → readNumber (record { good = good; fields = cond good f none }) ≡ cond good (numberOf f) 0
-  read-by true f none = refl
-  read-by false f none = refl
+  read-by : (good : Bool) (w : Wrong) (f none : Fields)
+      → readNumber (record { good = good; wrong = w; fields = cond good f none }) ≡ cond good (numberOf f) (wrongNumber w)
+  read-by true w f none = refl
+  read-by false w f none = refl
 
 pub command-gives : (t : ℕ) (r : Read Command) → r ≡ commandRead (word1 t) (word2 t) → readNumber commandNumber r ≡ commandAnswer t
 unfolding commandRead commandAnswer
 command-gives t r e =
     ap (readNumber commandNumber) e
-    ∙ read-by commandNumber (goodCommand (word1 t) (word2 t)) (commandFields (word1 t) (word2 t)) (command 0 0 0)
+    ∙ read-by commandNumber (goodCommand (word1 t) (word2 t)) (commandWrong (word1 t) (word2 t)) (commandFields (word1 t) (word2 t)) (command 0 0 0)
 
 pub response-gives : (t : ℕ) (r : Read Response) → r ≡ responseRead (word1 t) (word2 t) → readNumber responseNumber r ≡ responseAnswer t
 unfolding responseRead responseAnswer
 response-gives t r e =
     ap (readNumber responseNumber) e
-    ∙ read-by responseNumber (goodResponse (word1 t) (word2 t)) (responseFields (word1 t) (word2 t)) noFields
+    ∙ read-by responseNumber (goodResponse (word1 t) (word2 t)) (responseWrong (word1 t) (word2 t)) (responseFields (word1 t) (word2 t)) noFields

@@ -1,17 +1,18 @@
--- A built token is read back as its own fields, and each field stands at the bits that it is said to stand at.
+-- A built token is read back as its own fields; each field, and each wrong mark, stands at the bits that it is said to stand at.
 -- Assumes nothing.
 use Prim.Native.Nat.{ℕ, _<_}
 use native.Mathlib.Omega.{arith}
-use mathlib.Core.Bool.{true}
+use mathlib.Core.Bool.{true, false}
 use mathlib.Core.Path.{_≡_}
 use Rattle.bits.specs.Bits.{digit}
 use Rattle.bits.proofs.Digits.{digit-lt}
-use Rattle.token.specs.Command.{command, commandFits, commandFirst, commandSecond, goodCommand, commandFields}
+use Rattle.token.specs.Command.{command, commandFits, commandFirst, commandSecond, goodCommand, commandWrong, commandFields}
 use Rattle.token.specs.Marks.{at}
-use Rattle.token.specs.Response.{goodResponse, responseFields}
+use Rattle.token.specs.Response.{goodResponse, responseWrong, responseFields}
+use Rattle.token.specs.declared.marks.Wrong.{Wrong}
 use Rattle.token.specs.declared.response.Response.{Response}
 use Rattle.token.proofs.CommandTrip.{second-below, command-good, command-fields}
-use Rattle.flight.specs.Flight.{tokenAnswer, word1, word2, commandNumber, commandAnswer, responseNumber, responseAnswer}
+use Rattle.flight.specs.Flight.{tokenAnswer, word1, word2, wrongNumber, commandNumber, commandAnswer, responseNumber, responseAnswer}
 
 module _ (code length sub : ℕ) (fits : commandFits (command code length sub) ≡ true) where
   pub token-words : (word1 (tokenAnswer code length sub) ≡ commandFirst (command code length sub))
@@ -56,3 +57,25 @@ response-bits t good =
     let a = digit-lt (f .status .ar) in
     let i = digit-lt (f .status .ic) in
     record { stf = omega arith; me = omega arith; ar = omega arith; ic = omega arith; module-state = omega arith }
+
+-- the wrong marks of a token that is not good: prefix at bit 2, spare at 1, CRC-4 at 0
+pub record WrongBits (w : Wrong) (answer : ℕ) : Type 0 where
+  pub prefix : at 2 2 answer ≡ digit (w .prefix)
+  pub spare : at 1 1 answer ≡ digit (w .spare)
+  pub check : at 0 0 answer ≡ digit (w .check)
+
+wrong-bits : (w : Wrong) → WrongBits w (wrongNumber w)
+unfolding wrongNumber
+wrong-bits w =
+    let p = digit-lt (w .prefix) in
+    let s = digit-lt (w .spare) in
+    let c = digit-lt (w .check) in
+    record { prefix = omega arith; spare = omega arith; check = omega arith }
+
+pub command-wrong-bits : (t : ℕ) → goodCommand (word1 t) (word2 t) ≡ false → WrongBits (commandWrong (word1 t) (word2 t)) (commandAnswer t)
+unfolding commandAnswer
+command-wrong-bits t bad = rw bad (wrong-bits (commandWrong (word1 t) (word2 t)))
+
+pub response-wrong-bits : (t : ℕ) → goodResponse (word1 t) (word2 t) ≡ false → WrongBits (responseWrong (word1 t) (word2 t)) (responseAnswer t)
+unfolding responseAnswer
+response-wrong-bits t bad = rw bad (wrong-bits (responseWrong (word1 t) (word2 t)))

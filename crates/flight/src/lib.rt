@@ -2,13 +2,14 @@
 // Each answers with one number of 32 bits. include/spi2.h says the same in C's words.
 ghost use mathlib.Core.Path.{_≡_};
 ghost use Rattle.flight.specs.Flight;
-ghost use Rattle.flight.specs.Flight.{tokenAnswer, commandNumber, commandAnswer, responseNumber, responseAnswer, checkAnswer};
+ghost use Rattle.flight.specs.Flight.{tokenAnswer, wrongNumber, commandNumber, commandAnswer, responseNumber, responseAnswer, checkAnswer};
 use bits::digit_of;
 use rules::refusal;
 use token::command::Command;
 use token::command::CommandBuilt;
 use token::command::CommandRead;
 use token::command::CommandToken;
+use token::marks::Wrong;
 use token::response::Response;
 use token::response::ResponseRead;
 use token::response::ResponseToken;
@@ -37,13 +38,19 @@ pub extern "C" fn spi2_command_token(code: u32, length: u32, sub_address: u32) -
 
 // ---- the token readers
 
+fn wrong_number(w: Wrong) -> u32
+    ensures { λ r. ⌜ r ≡ wrongNumber w ⌝ }
+{
+    digit_of(w.prefix) as u32 * 4 + digit_of(w.spare) as u32 * 2 + digit_of(w.check) as u32
+}
+
 fn command_number(f: Command) -> u32
     ensures { λ r. ⌜ r ≡ commandNumber f ⌝ }
 {
     GOOD + f.code as u32 * 65536 + f.length as u32 * 256 + f.sub_address as u32
 }
 
-// The fields of a good command token, with bit 31 set; else 0.
+// The fields of a good command token, with bit 31 set; else which of its marks are wrong.
 #[no_mangle]
 pub extern "C" fn spi2_read_command(token: u32) -> u32
     ensures { λ r. ⌜ r ≡ commandAnswer token ⌝ }
@@ -54,7 +61,7 @@ pub extern "C" fn spi2_read_command(token: u32) -> u32
     };
     match t.read() {
         CommandRead::Good(f) => command_number(f),
-        CommandRead::NotGood => 0,
+        CommandRead::NotGood(w) => wrong_number(w),
     }
 }
 
@@ -70,7 +77,7 @@ fn response_number(f: Response) -> u32
         + f.module_state as u32
 }
 
-// The fields of a good response token, with bit 31 set; else 0.
+// The fields of a good response token, with bit 31 set; else which of its marks are wrong.
 #[no_mangle]
 pub extern "C" fn spi2_read_response(token: u32) -> u32
     ensures { λ r. ⌜ r ≡ responseAnswer token ⌝ }
@@ -81,7 +88,7 @@ pub extern "C" fn spi2_read_response(token: u32) -> u32
     };
     match t.read() {
         ResponseRead::Good(f) => response_number(f),
-        ResponseRead::NotGood => 0,
+        ResponseRead::NotGood(w) => wrong_number(w),
     }
 }
 

@@ -1,7 +1,7 @@
--- What is known where no step failed; and of bases.
+-- What is known where no step failed; that step 1 goes by the token's wrong marks; and of bases.
 -- Assumes nothing.
 use Prim.Native.Nat.{ℕ, _+_, _*_, _%_, _≤_}
-use mathlib.Core.Bool.{Bool, true, false, cond, _&&_, true≢false}
+use mathlib.Core.Bool.{Bool, true, false, cond, not, _&&_, _||_, true≢false}
 use mathlib.Core.List.{List}
 use mathlib.Core.Path.{_≡_, refl, sym, _∙_, subst}
 use native.Mathlib.Omega.{arith}
@@ -9,9 +9,9 @@ use borrow.Author.Tests.{eq-eqb, leb-true, ltb-false}
 use lib.Dec.{eqb, ltb}
 use lib.ListN.{length, drop, getD}
 use Rattle.rules.specs.Rules.{table, found, rowIn, ruleOf, tick, read, write}
-use Rattle.token.specs.Command.{commandMarks, goodCommand, commandFields}
-use Rattle.token.specs.Marks.{goodMarks}
-use Rattle.token.specs.Response.{clean, anySet}
+use Rattle.token.specs.Command.{commandMarks, goodCommand, commandWrong, commandFields, commandRead}
+use Rattle.token.specs.Marks.{goodMarks, wrongMarks}
+use Rattle.token.specs.Response.{status, clean, anySet}
 use Rattle.token.specs.declared.command.Command.{Command}
 use Rattle.token.specs.declared.response.Status.{Status}
 use Rattle.token.proofs.Good.{both}
@@ -71,6 +71,17 @@ passed-good first second h = go (commandMarks first second .prefix) (commandMark
     go true false false h = never h
     go false s true h = never h
     go false s false h = never h
+
+-- step 1 sets IC for a wrong prefix or spare and ME for a wrong CRC-4, as the token's reader names them
+pub step-1-by-wrong : (first second : ℕ)
+    → let w = commandRead first second .wrong in
+    step1 (commandMarks first second) ≡ status (w .check) false (w .prefix || w .spare)
+unfolding step1 commandRead commandWrong wrongMarks
+step-1-by-wrong first second = rw (or-of-nots (commandMarks first second .prefix) (commandMarks first second .spare))
+  where
+    or-of-nots : (p s : Bool) → (not p || not s) ≡ not (p && s)
+    or-of-nots true s = refl
+    or-of-nots false s = refl
 
 -- step 2: TICK's index is at most 63
 pub tick-index : (f : Command) → anySet (step2 f (ruleOf (f .code))) ≡ false → f .code ≡ tick .code → f .«sub_address» ≤ 63

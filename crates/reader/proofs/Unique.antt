@@ -16,13 +16,13 @@ readingOf : Answer → Reading
 readingOf a =
     cond (eqb (a .refusal) refusal.Argument) Argument
     (cond (eqb (a .refusal) refusal.Count) Count
-    (cond (a .token) (cond (a .payload) (Good (a .fields)) (BadPayload (a .fields))) BadToken))
+    (cond (a .token) (cond (a .payload) (Good (a .fields)) (BadPayload (a .fields))) (BadToken (a .wrong))))
 
 reading-found : (r : Reading) → readingOf (readingGives r) ≡ r
 unfolding readingOf
 reading-found (Good f) = refl
 reading-found (BadPayload f) = refl
-reading-found BadToken = refl
+reading-found (BadToken w) = refl
 reading-found Argument = refl
 reading-found Count = refl
 

@@ -16,8 +16,9 @@ fn read_words(words: &[u16], n: usize) -> Reading
     let first = words[0];
     let second = words[1];
     let token = ResponseToken { first, second };
-    let ResponseRead::Good(fields) = token.read() else {
-        return Reading::BadToken;
+    let fields = match token.read() {
+        ResponseRead::Good(fields) => fields,
+        ResponseRead::NotGood(wrong) => return Reading::BadToken(wrong),
     };
     if crc::agrees(&words[2..], n) {
         return Reading::Good(fields);

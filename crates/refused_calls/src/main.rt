@@ -26,6 +26,7 @@ use pins::Pins;
 use pins::PinsAfter;
 use rules::refusal;
 use shifter::Shifter;
+use token::marks::Wrong;
 
 struct Record {
     op: u8,
@@ -132,24 +133,33 @@ fn build(record: Record) {
     build_in(record, &block[..count], &mut buffer[..room]);
 }
 
-fn say_reading(number: u8, token: bool, payload: bool) {
+const NONE_WRONG: Wrong = Wrong {
+    prefix: false,
+    spare: false,
+    check: false,
+};
+
+fn say_reading(number: u8, token: bool, payload: bool, wrong: Wrong) {
     say(number as usize);
     say_bit(token);
     say_bit(payload);
+    say_bit(wrong.prefix);
+    say_bit(wrong.spare);
+    say_bit(wrong.check);
 }
 
-// 3: for length p, q words: r, s, and then t. The line ends in how many words of payload are shown.
+// 3: for length p, q words: r, s, and then t. The line has the wrong marks of a bad token, and ends in how many words of payload are shown.
 fn read(record: Record) {
     let words = words_of(record.r, record.s, record.t);
     let count = at_most(record.q, 100);
     let length = record.p as u32;
     write(b"A");
     match reader::read_answer(&words[..count], length) {
-        Reading::Good(_) => say_reading(refusal::NONE, true, true),
-        Reading::BadPayload(_) => say_reading(refusal::NONE, true, false),
-        Reading::BadToken => say_reading(refusal::NONE, false, false),
-        Reading::Argument => say_reading(refusal::ARGUMENT, false, false),
-        Reading::Count => say_reading(refusal::COUNT, false, false),
+        Reading::Good(_) => say_reading(refusal::NONE, true, true, NONE_WRONG),
+        Reading::BadPayload(_) => say_reading(refusal::NONE, true, false, NONE_WRONG),
+        Reading::BadToken(wrong) => say_reading(refusal::NONE, false, false, wrong),
+        Reading::Argument => say_reading(refusal::ARGUMENT, false, false, NONE_WRONG),
+        Reading::Count => say_reading(refusal::COUNT, false, false, NONE_WRONG),
     }
     say(reader::payload_of(&words[..count], length).len());
 }

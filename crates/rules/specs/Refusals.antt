@@ -37,6 +37,6 @@ Turn = 7
 abbrev pub Count : ℕ
 Count = 8
 
--- trace only
+-- a record of a program's input that is of no known kind, or unfinished
 abbrev pub Record : ℕ
 Record = 9

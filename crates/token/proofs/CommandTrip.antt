@@ -1,4 +1,4 @@
--- A built command token reads good with its own fields, and a good one is the token built from its fields.
+-- A built command token reads good with its own fields and no wrong mark, and a good one is the token built from its fields.
 -- Assumes nothing.
 use Prim.Native.Nat.{ℕ, _/_, _%_, _≤_, _<_}
 use native.Mathlib.Omega.{arith}
@@ -7,11 +7,12 @@ use mathlib.Core.Path.{_≡_, ap, _∙_}
 use borrow.Author.Tests.{eq-eqb, leb-true}
 use lib.Dec.{leb}
 use Rattle.crc.proofs.Words.{crc4-lt}
-use Rattle.token.specs.Command.{tokenOf, commandToken, commandFits, commandFirst, commandUpper, commandSecond, commandMarks, goodCommand, commandFields, commandRead}
-use Rattle.token.specs.Marks.{at, withCheck, goodMarks}
+use Rattle.token.specs.Command.{tokenOf, commandToken, commandFits, commandFirst, commandUpper, commandSecond, commandMarks, goodCommand, commandWrong, commandFields, commandRead}
+use Rattle.token.specs.Marks.{at, withCheck, goodMarks, noneWrong}
 use Rattle.token.specs.declared.command.Command.{Command}
 use Rattle.token.proofs.Good.{both, good-command}
 use Rattle.token.proofs.Second.{peel, upper-kept, check-right, rebuilt}
+use Rattle.token.proofs.Wrong.{none-wrong}
 
 -- fields fit a token where the builder's test says so
 abbrev pub CommandFits : Command → Type 0
@@ -51,6 +52,10 @@ module _ (f : Command) (fits : CommandFits f) where
       let e : at 5 4 (commandSecond f) ≡ 0b11 = omega (arith, limits, command-upper) in
       rw (eq-eqb _ _ a, eq-eqb _ _ b, eq-eqb _ _ d, eq-eqb _ _ e, check-right (commandFirst f) (commandUpper f) command-empty)
 
+  pub command-none-wrong : commandWrong (commandFirst f) (commandSecond f) ≡ noneWrong
+  unfolding commandWrong goodCommand
+  command-none-wrong = none-wrong (commandMarks (commandFirst f) (commandSecond f)) command-good
+
   pub command-fields : commandFields (commandFirst f) (commandSecond f) ≡ f
   unfolding commandFields
   command-fields =
@@ -59,9 +64,9 @@ module _ (f : Command) (fits : CommandFits f) where
       let d : at 13 6 (commandSecond f) ≡ f .«sub_address» = unfold commandUpper in omega (arith, limits, command-upper) in
       rw (a, b, d)
 
-  pub command-reads-back : commandRead (commandFirst f) (commandSecond f) ≡ record { good = true; fields = f }
+  pub command-reads-back : commandRead (commandFirst f) (commandSecond f) ≡ record { good = true; wrong = noneWrong; fields = f }
   unfolding commandRead
-  command-reads-back = rw (command-good, command-fields)
+  command-reads-back = rw (command-good, command-none-wrong, command-fields)
 
 module _ (first second : ℕ) (word : first < 65536) (word₂ : second < 65536) (good : goodCommand first second ≡ true) where
   pub command-first-rebuilt : commandFirst (commandFields first second) ≡ first

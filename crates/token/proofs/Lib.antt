@@ -5,4 +5,7 @@ pub mod OneFlip
 pub mod Refusals
 pub mod ResponseTrip
 pub mod Second
+pub mod SevenSets
 pub mod Unique
+pub mod Windows
+pub mod Wrong

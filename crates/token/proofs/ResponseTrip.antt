@@ -1,4 +1,4 @@
--- A built response token reads good with its own fields, and a good one is the token built from its fields.
+-- A built response token reads good with its own fields and no wrong mark, and a good one is the token built from its fields.
 -- Assumes nothing.
 use Prim.Native.Nat.{ℕ, _+_, _*_, _/_, _%_, _^_, _≤_, _<_}
 use native.Mathlib.Nat.{mod-lt}
@@ -9,11 +9,12 @@ use borrow.Author.Tests.{eq-eqb}
 use lib.Dec.{eqb, lit<}
 use Rattle.bits.specs.Bits.{digit}
 use Rattle.bits.proofs.Digits.{digit-lt, digit-odd}
-use Rattle.token.specs.Marks.{at, withCheck, goodMarks}
-use Rattle.token.specs.Response.{responseTokenOf, responseToken, responseFirst, responseUpper, responseSecond, responseMarks, goodResponse, responseFields, responseRead}
+use Rattle.token.specs.Marks.{at, withCheck, goodMarks, noneWrong}
+use Rattle.token.specs.Response.{responseTokenOf, responseToken, responseFirst, responseUpper, responseSecond, responseMarks, goodResponse, responseWrong, responseFields, responseRead}
 use Rattle.token.specs.declared.response.Response.{Response}
 use Rattle.token.proofs.Good.{good-response}
 use Rattle.token.proofs.Second.{peel, upper-kept, check-right, rebuilt}
+use Rattle.token.proofs.Wrong.{none-wrong}
 
 -- a bit read back from its digit
 bit-back : (b : Bool) (n : ℕ) → n ≡ digit b → eqb n 1 ≡ b
@@ -37,6 +38,10 @@ module _ (f : Response) (fits : f .«module_state» ≤ 15) where
       let e : at 13 4 (responseSecond f) ≡ 0x078 = omega (arith, response-upper) in
       rw (eq-eqb _ _ a, eq-eqb _ _ b, eq-eqb _ _ d, eq-eqb _ _ e, check-right (responseFirst f) responseUpper refl)
 
+  pub response-none-wrong : responseWrong (responseFirst f) (responseSecond f) ≡ noneWrong
+  unfolding responseWrong goodResponse
+  response-none-wrong = none-wrong (responseMarks (responseFirst f) (responseSecond f)) response-good
+
   pub response-fields : responseFields (responseFirst f) (responseSecond f) ≡ f
   unfolding responseFields responseFirst
   response-fields =
@@ -47,9 +52,9 @@ module _ (f : Response) (fits : f .«module_state» ≤ 15) where
       let state : at 3 0 (responseFirst f) ≡ f .«module_state» = omega (arith, fits, smalls) in
       rw (bit-back (f .stf) _ stf, bit-back (f .status .me) _ me, bit-back (f .status .ar) _ ar, bit-back (f .status .ic) _ ic, state)
 
-  pub response-reads-back : responseRead (responseFirst f) (responseSecond f) ≡ record { good = true; fields = f }
+  pub response-reads-back : responseRead (responseFirst f) (responseSecond f) ≡ record { good = true; wrong = noneWrong; fields = f }
   unfolding responseRead
-  response-reads-back = rw (response-good, response-fields)
+  response-reads-back = rw (response-good, response-none-wrong, response-fields)
 
 -- the six upper bits of word 1
 six : (n : ℕ) → n < 65536 → at 15 14 n ≡ 0b10 → n / 2 ^ 10 ≡ 0b10 * 16 + n / 2 ^ 13 % 2 * 8 + n / 2 ^ 12 % 2 * 4 + n / 2 ^ 11 % 2 * 2 + n / 2 ^ 10 % 2

@@ -1,7 +1,7 @@
 -- Each public operation's contract leaves one answer. Where that answer is an enum, no two of its cases give the same number and values.
 -- Assumes nothing.
 use native.Mathlib.Omega.{arith}
-use mathlib.Core.Bool.{true≢false, false≢true}
+use mathlib.Core.Bool.{cond}
 use mathlib.Core.Path.{_≡_, refl, sym, ap, _∙_}
 use Rattle.token.specs.Answers.{Built, Read}
 use Rattle.token.specs.Command.{commandBuiltGives, commandReadGives}
@@ -19,6 +19,7 @@ use Rattle.token.specs.declared.response.ResponseBuilt.the-variants as r
 use Rattle.token.specs.declared.response.ResponseRead.{ResponseRead}
 use Rattle.token.specs.declared.response.ResponseRead.the-variants as response-read
 use Rattle.token.proofs.marks.Marks.good.Reads as marks-good
+use Rattle.token.proofs.marks.Marks.wrong.Reads as marks-wrong
 use Rattle.token.proofs.response.any_set.Reads as any-set
 use Rattle.token.proofs.command.CommandToken.new.Reads as command-new
 use Rattle.token.proofs.command.CommandToken.marks.Reads as command-marks
@@ -32,6 +33,9 @@ use Rattle.token.proofs.response.ResponseToken.read.Reads as response-r
 pub one-marks-good : (κs : _) (a : _) (r s : _) (e f : _) → marks-good.Post κs a r e → marks-good.Post κs a s f → r ≡ s
 one-marks-good κs a r s e f p q = p ∙ sym q
 
+pub one-marks-wrong : (κs : _) (a : _) (r s : _) (e f : _) → marks-wrong.Post κs a r e → marks-wrong.Post κs a s f → r ≡ s
+one-marks-wrong κs a r s e f p q = p ∙ sym q
+
 -- ---- the command token
 
 command-built-one : (r s : CommandBuilt) → commandBuiltGives r ≡ commandBuiltGives s → r ≡ s
@@ -40,11 +44,17 @@ command-built-one (command-built.Token t) command-built.Argument e = absurd (ome
 command-built-one command-built.Argument (command-built.Token u) e = absurd (omega (arith, ap (λ (b : Built CommandToken). b .refusal) e))
 command-built-one command-built.Argument command-built.Argument e = refl
 
+-- found again from its values
+command-read-found : Read Command → CommandRead
+command-read-found b = cond (b .good) (command-read.Good (b .fields)) (command-read.NotGood (b .wrong))
+
 command-read-one : (r s : CommandRead) → commandReadGives r ≡ commandReadGives s → r ≡ s
-command-read-one (command-read.Good f) (command-read.Good g) e = ap (λ (b : Read Command). command-read.Good (b .fields)) e
-command-read-one (command-read.Good f) command-read.NotGood e = absurd (true≢false (ap (λ (b : Read Command). b .good) e))
-command-read-one command-read.NotGood (command-read.Good g) e = absurd (false≢true (ap (λ (b : Read Command). b .good) e))
-command-read-one command-read.NotGood command-read.NotGood e = refl
+unfolding command-read-found
+command-read-one r s e = sym (found r) ∙ ap command-read-found e ∙ found s
+  where
+    found : (r : CommandRead) → command-read-found (commandReadGives r) ≡ r
+    found (command-read.Good f) = refl
+    found (command-read.NotGood w) = refl
 
 pub one-command-new : (κs : _) (a : _) (r s : _) (e f : _) → command-new.Post κs a r e → command-new.Post κs a s f → r ≡ s
 one-command-new κs a r s e f p q = command-built-one r s (p ∙ sym q)
@@ -66,11 +76,17 @@ response-built-one (response-built.Token t) response-built.Argument e = absurd (
 response-built-one response-built.Argument (response-built.Token u) e = absurd (omega (arith, ap (λ (b : Built ResponseToken). b .refusal) e))
 response-built-one response-built.Argument response-built.Argument e = refl
 
+-- found again from its values
+response-read-found : Read Response → ResponseRead
+response-read-found b = cond (b .good) (response-read.Good (b .fields)) (response-read.NotGood (b .wrong))
+
 response-read-one : (r s : ResponseRead) → responseReadGives r ≡ responseReadGives s → r ≡ s
-response-read-one (response-read.Good f) (response-read.Good g) e = ap (λ (b : Read Response). response-read.Good (b .fields)) e
-response-read-one (response-read.Good f) response-read.NotGood e = absurd (true≢false (ap (λ (b : Read Response). b .good) e))
-response-read-one response-read.NotGood (response-read.Good g) e = absurd (false≢true (ap (λ (b : Read Response). b .good) e))
-response-read-one response-read.NotGood response-read.NotGood e = refl
+unfolding response-read-found
+response-read-one r s e = sym (found r) ∙ ap response-read-found e ∙ found s
+  where
+    found : (r : ResponseRead) → response-read-found (responseReadGives r) ≡ r
+    found (response-read.Good f) = refl
+    found (response-read.NotGood w) = refl
 
 pub one-response-new : (κs : _) (a : _) (r s : _) (e f : _) → response-new.Post κs a r e → response-new.Post κs a s f → r ≡ s
 one-response-new κs a r s e f p q = response-built-one r s (p ∙ sym q)

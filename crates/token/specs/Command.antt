@@ -11,8 +11,9 @@ use Rattle.token.specs.declared.command.CommandBuilt.the-variants.{Token
 use Rattle.token.specs.declared.command.CommandRead.{CommandRead}
 use Rattle.token.specs.declared.command.CommandRead.the-variants.{Good, NotGood}
 use Rattle.token.specs.declared.marks.Marks.{Marks}
+use Rattle.token.specs.declared.marks.Wrong.{Wrong}
 use Rattle.token.specs.Answers.{Built, Read}
-use Rattle.token.specs.Marks.{at, withCheck, checkRight, goodMarks}
+use Rattle.token.specs.Marks.{at, withCheck, checkRight, goodMarks, noneWrong, wrongMarks}
 
 abbrev pub command : ℕ → ℕ → ℕ → Command
 command code length sub = record { code = code; length = length; «sub_address» = sub }
@@ -63,17 +64,21 @@ commandMarks first second = record {
 unfoldable pub goodCommand : ℕ → ℕ → Bool
 goodCommand first second = goodMarks (commandMarks first second)
 
+unfoldable pub commandWrong : ℕ → ℕ → Wrong
+commandWrong first second = wrongMarks (commandMarks first second)
+
 unfoldable pub commandFields : ℕ → ℕ → Command
 commandFields first second = command (at 13 8 first) (at 5 0 first) (at 13 6 second)
 
--- a good token's fields, else zeros and "not good"
+-- a good token's fields, else zeros, "not good" and which marks are wrong
 unfoldable pub commandRead : ℕ → ℕ → Read Command
 commandRead first second = record {
   good = goodCommand first second;
+  wrong = commandWrong first second;
   fields = cond (goodCommand first second) (commandFields first second) (command 0 0 0);
 }
 
 -- values of each case
 abbrev pub commandReadGives : CommandRead → Read Command
-commandReadGives (Good f) = record { good = true; fields = f }
-commandReadGives NotGood = record { good = false; fields = command 0 0 0 }
+commandReadGives (Good f) = record { good = true; wrong = noneWrong; fields = f }
+commandReadGives (NotGood w) = record { good = false; wrong = w; fields = command 0 0 0 }

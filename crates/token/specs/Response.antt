@@ -13,8 +13,9 @@ use Rattle.token.specs.declared.response.ResponseBuilt.the-variants.{Tok
 use Rattle.token.specs.declared.response.ResponseRead.{ResponseRead}
 use Rattle.token.specs.declared.response.ResponseRead.the-variants.{Good, NotGood}
 use Rattle.token.specs.declared.marks.Marks.{Marks}
+use Rattle.token.specs.declared.marks.Wrong.{Wrong}
 use Rattle.token.specs.Answers.{Built, Read}
-use Rattle.token.specs.Marks.{at, withCheck, checkRight, goodMarks}
+use Rattle.token.specs.Marks.{at, withCheck, checkRight, goodMarks, noneWrong, wrongMarks}
 
 abbrev pub status : Bool → Bool → Bool → Status
 status me ar ic = record { me = me; ar = ar; ic = ic }
@@ -78,20 +79,24 @@ responseMarks first second = record {
 unfoldable pub goodResponse : ℕ → ℕ → Bool
 goodResponse first second = goodMarks (responseMarks first second)
 
+unfoldable pub responseWrong : ℕ → ℕ → Wrong
+responseWrong first second = wrongMarks (responseMarks first second)
+
 unfoldable pub responseFields : ℕ → ℕ → Response
 responseFields first second =
     response (eqb (at 13 13 first) 1)
     (status (eqb (at 12 12 first) 1) (eqb (at 11 11 first) 1) (eqb (at 10 10 first) 1))
     (at 3 0 first)
 
--- a good token's fields, else zeros and "not good"
+-- a good token's fields, else zeros, "not good" and which marks are wrong
 unfoldable pub responseRead : ℕ → ℕ → Read Response
 responseRead first second = record {
   good = goodResponse first second;
+  wrong = responseWrong first second;
   fields = cond (goodResponse first second) (responseFields first second) noFields;
 }
 
 -- values of each case
 abbrev pub responseReadGives : ResponseRead → Read Response
-responseReadGives (Good f) = record { good = true; fields = f }
-responseReadGives NotGood = record { good = false; fields = noFields }
+responseReadGives (Good f) = record { good = true; wrong = noneWrong; fields = f }
+responseReadGives (NotGood w) = record { good = false; wrong = w; fields = noFields }

@@ -2,6 +2,7 @@
 ghost use mathlib.Core.Path.{_≡_};
 ghost use Rattle.token.specs.Command.{commandBuiltGives, commandBuilt, commandMarks, commandFields, commandReadGives, commandRead};
 use crate::marks::Marks;
+use crate::marks::Wrong;
 use crate::marks::with_check;
 use crate::marks::with_marks;
 
@@ -24,10 +25,10 @@ pub enum CommandBuilt {
     Argument,
 }
 
-// What reading one gives: the fields of a good token.
+// What reading one gives: the fields of a good token, or which marks are wrong.
 pub enum CommandRead {
     Good(Command),
-    NotGood,
+    NotGood(Wrong),
 }
 
 impl CommandToken {
@@ -87,9 +88,10 @@ impl CommandToken {
     pub fn read(self) -> CommandRead
         ensures { λ r. ⌜ commandReadGives r ≡ commandRead (self .first) (self .second) ⌝ }
     {
-        if self.marks().good() {
+        let marks = self.marks();
+        if marks.good() {
             return CommandRead::Good(self.fields());
         }
-        CommandRead::NotGood
+        CommandRead::NotGood(marks.wrong())
     }
 }

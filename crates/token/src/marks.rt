@@ -1,10 +1,17 @@
 // What both kinds of token have: three marks, and a CRC-4 in the last four bits.
 ghost use mathlib.Core.Path.{_≡_};
 ghost use Prim.Native.Nat.{_≤_};
-ghost use Rattle.token.specs.Marks.{withCheck, checkRight, goodMarks};
+ghost use Rattle.token.specs.Marks.{withCheck, checkRight, goodMarks, wrongMarks};
 
 // Which of a token's marks are right.
 pub struct Marks {
+    pub prefix: bool,
+    pub spare: bool,
+    pub check: bool,
+}
+
+// Which of them are wrong.
+pub struct Wrong {
     pub prefix: bool,
     pub spare: bool,
     pub check: bool,
@@ -16,6 +23,17 @@ impl Marks {
         ensures { λ r. ⌜ r ≡ goodMarks self ⌝ }
     {
         self.prefix & self.spare & self.check
+    }
+
+    // All that are wrong, each by itself.
+    pub fn wrong(self) -> Wrong
+        ensures { λ r. ⌜ r ≡ wrongMarks self ⌝ }
+    {
+        Wrong {
+            prefix: !self.prefix,
+            spare: !self.spare,
+            check: !self.check,
+        }
     }
 }
 

@@ -2,6 +2,7 @@
 ghost use mathlib.Core.Path.{_≡_};
 ghost use Rattle.token.specs.Response.{anySet, responseBuiltGives, responseBuilt, responseMarks, responseFields, responseReadGives, responseRead};
 use crate::marks::Marks;
+use crate::marks::Wrong;
 use crate::marks::with_check;
 use crate::marks::with_marks;
 use bits::digit_of;
@@ -32,10 +33,10 @@ pub enum ResponseBuilt {
     Argument,
 }
 
-// What reading one gives: the fields of a good token.
+// What reading one gives: the fields of a good token, or which marks are wrong.
 pub enum ResponseRead {
     Good(Response),
-    NotGood,
+    NotGood(Wrong),
 }
 
 // Whether some bit is set.
@@ -106,9 +107,10 @@ impl ResponseToken {
     pub fn read(self) -> ResponseRead
         ensures { λ r. ⌜ responseReadGives r ≡ responseRead (self .first) (self .second) ⌝ }
     {
-        if self.marks().good() {
+        let marks = self.marks();
+        if marks.good() {
             return ResponseRead::Good(self.fields());
         }
-        ResponseRead::NotGood
+        ResponseRead::NotGood(marks.wrong())
     }
 }

@@ -9,6 +9,7 @@ use token::command::CommandBuilt;
 use token::command::CommandRead;
 use token::command::CommandToken;
 use token::marks::Marks;
+use token::marks::Wrong;
 use token::response::Response;
 use token::response::ResponseBuilt;
 use token::response::ResponseRead;
@@ -62,6 +63,18 @@ fn write_marks(marks: Marks) {
     );
 }
 
+fn write_wrong(wrong: Wrong) {
+    write(
+        &[
+            b' ',
+            b'-',
+            flag(wrong.prefix),
+            flag(wrong.spare),
+            flag(wrong.check),
+        ],
+    );
+}
+
 fn write_refusal(number: u8) {
     write(&[b'E', b' ', glyph(number as u16)]);
 }
@@ -86,21 +99,17 @@ fn payload(words: &[u16], bytes: &[u8]) {
 
 fn command_read(token: CommandToken) {
     write_marks(token.marks());
-    let CommandRead::Good(fields) = token.read() else {
-        write(b" -");
-        return;
-    };
-    write_byte(fields.code);
-    write_byte(fields.length);
-    write_byte(fields.sub_address);
+    match token.read() {
+        CommandRead::Good(fields) => {
+            write_byte(fields.code);
+            write_byte(fields.length);
+            write_byte(fields.sub_address);
+        }
+        CommandRead::NotGood(wrong) => write_wrong(wrong),
+    }
 }
 
-fn response_read(token: ResponseToken) {
-    write_marks(token.marks());
-    let ResponseRead::Good(fields) = token.read() else {
-        write(b" -");
-        return;
-    };
+fn write_response(fields: Response) {
     let status = fields.status;
     write(
         &[
@@ -113,6 +122,14 @@ fn response_read(token: ResponseToken) {
             glyph(fields.module_state as u16),
         ],
     );
+}
+
+fn response_read(token: ResponseToken) {
+    write_marks(token.marks());
+    match token.read() {
+        ResponseRead::Good(fields) => write_response(fields),
+        ResponseRead::NotGood(wrong) => write_wrong(wrong),
+    }
 }
 
 fn tokens(first: u16, second: u16) {

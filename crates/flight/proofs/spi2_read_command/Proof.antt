@@ -16,8 +16,10 @@ returns c =
 
 returns-2 : tie.Need-returns-2
 returns-2 c =
-    command-gives (c .before .before .before .args .token) _
-    (ap commandReadGives (sym (c .enum-told .given .1)) ∙ c .before .before .read .ensures)
+    let m = c .before .before in
+    c .wrong-number .ensures
+    ∙ command-gives (m .before .before .before .args .token) _
+    (ap commandReadGives (sym (m .w .given .1)) ∙ m .before .before .read .ensures)
 
 pub spi2-read-command-spec : {M : Type 1} → statement M
 spi2-read-command-spec =
@@ -29,5 +31,6 @@ spi2-read-command-spec =
     (λ c. search needs)
     (λ c κs. tt)
     (λ c. search needs)
+    (λ c κs. tt)
     returns
     returns-2)

@@ -8,6 +8,7 @@ use borrow.Author.Needs.{needs}
 use lib.ListN.{length, take, drop}
 use Rattle.crc.specs.Crc.{agrees}
 use Rattle.rules.specs.Refusals as refusal
+use Rattle.token.specs.Marks.{noneWrong}
 use Rattle.token.specs.declared.response.ResponseRead.the-variants.{Good, NotGood}
 use Rattle.controller.specs.Reader.{payloadGood, answerRead}
 use Rattle.controller.proofs.AnswerLaws.{read-passed, token-read}
@@ -30,10 +31,11 @@ shared-slice-read-second c = omega (arith, two-long (c .before .before .before))
 returns : tie.Need-returns
 unfolding answerRead payloadGood
 returns c =
-    let p = c .before .before in
+    let p = c .before .before .before in
     let s = p .before .before .before .before in
-    let (wrong, none) = token-read (s .args .words .now) (p .read .result) NotGood (p .read .ensures) (c .enum-told .given .1) in
-    simp (s .pre, wrong, none)
+    let told = c .before .wrong .given in
+    let (bad, named, none) = token-read (s .args .words .now) (p .read .result) (NotGood (told .0 .0)) (p .read .ensures) (told .1) in
+    simp (s .pre, bad, named, none)
 
 sub-agrees : tie.Need-sub-agrees
 sub-agrees c = two-long (c .before .before .before .before .before .before .before)
@@ -45,17 +47,17 @@ part-agrees-start c = omega (arith, two-long (c .before .before .before .before 
 judged : (p : tie.After-agrees)
     → let s = p .before .before .before .before .before .before .before .before .before in
     answerRead (s .args .n) (s .args .words .now)
-    ≡ record { refusal = refusal.None; token = true; payload = p .agrees .result; fields = p .before .before .before .fields .given .0 .0 }
+    ≡ record { refusal = refusal.None; token = true; payload = p .agrees .result; wrong = noneWrong; fields = p .before .before .before .fields .given .0 .0 }
 unfolding answerRead payloadGood
 judged p =
     let s = p .before .before .before .before .before .before .before .before .before in
     let words = s .args .words .now in
     let told = p .before .before .before .fields .given in
     let token = p .before .before .before .before .before .read in
-    let (right, same) = token-read words (token .result) (Good (told .0 .0)) (token .ensures) (told .1) in
+    let (right, none, same) = token-read words (token .result) (Good (told .0 .0)) (token .ensures) (told .1) in
     let rest : take (length words - 2) (drop 2 words) ≡ drop 2 words = tail-lent 2 words (two-long s) in
     let check : agrees (s .args .n) (drop 2 words) ≡ p .agrees .result = rw rest at (sym (p .agrees .ensures)) in
-    simp (s .pre, right, same, check)
+    simp (s .pre, right, none, same, check)
 
 returns-2 : tie.Need-returns-2
 returns-2 c = rw (judged (c .before), c .if1 .taken)

@@ -39,7 +39,7 @@ judged p q is =
     rw (good (p .before .before) .shown) (rw (p .before .shown-token .ensures) at told)
 
 returns-2 : tie.Need-returns-2
-returns-2 c = rw (judged (c .before .before) NotGood (c .enum-told3 .given .1))
+returns-2 c = rw (judged (c .before .before) (NotGood _) (c .enum-told3 .given .1))
 
 returns-3 : tie.Need-returns-3
 returns-3 c = rw (judged (c .before .before) (Good _) (c .enum-told2 .given .1))
