@@ -150,7 +150,8 @@ uint32_t spi2_payload_check(const uint8_t *bytes, size_t count);
 /* Of an answer of spi2_read_command or spi2_read_response: whether the token is good. */
 #define SPI2_GOOD(answer) ((uint32_t)(answer) >= UINT32_C(0x80000000))
 
-/* Of such an answer: which marks are wrong, each 0 or 1. All are 0 where the token is good, and at least one is 1 where not. */
+/* Of such an answer: which marks are wrong, each 0 or 1. All are 0 where the token is good, and at least one is 1 where it
+ * is not. */
 #define SPI2_WRONG_PREFIX(answer) (((uint32_t)(answer) & ~UINT32_C(3)) == 4u)
 #define SPI2_WRONG_SPARE(answer) (((uint32_t)(answer) & ~UINT32_C(5)) == 2u)
 #define SPI2_WRONG_CRC4(answer) (((uint32_t)(answer) & ~UINT32_C(6)) == 1u)

@@ -14,12 +14,12 @@ use Rattle.rules.specs.Rules.{messageWords}
 use Rattle.token.specs.Answers.{Read}
 use Rattle.token.specs.Command.{goodCommand, commandRead, commandReadGives}
 use Rattle.token.specs.Marks.{anyWrong}
-use Rattle.token.specs.Response.{responseMarks, goodResponse, responseWrong, responseRead, responseReadGives}
+use Rattle.token.specs.Response.{responseRead, responseReadGives}
 use Rattle.token.specs.declared.command.Command.{Command}
 use Rattle.token.specs.declared.command.CommandRead.{CommandRead}
 use Rattle.token.specs.declared.response.Response.{Response}
 use Rattle.token.specs.declared.response.ResponseRead.{ResponseRead}
-use Rattle.token.proofs.Wrong.{any-wrong}
+use Rattle.token.proofs.Wrong.{response-names}
 use Rattle.controller.specs.Reader.{Answer, readingGives, readRefusal, tokenGood, tokenWrong, fieldsRead, answerRead}
 use Rattle.controller.specs.declared.Reading.{Reading}
 use Rattle.controller.specs.declared.Reading.the-variants.{Good, BadPayload, BadToken, Argument, Count}
@@ -66,8 +66,8 @@ good-count len words h =
 -- an answer that is not refused names a wrong mark exactly where its token is bad
 pub answer-names : (len : ℕ) (words : List ℕ) → readRefusal len (length words) ≡ refusal.None
     → anyWrong (answerRead len words .wrong) ≡ not (answerRead len words .token)
-unfolding answerRead tokenGood tokenWrong responseRead goodResponse responseWrong
-answer-names len words passed = rw passed (any-wrong (responseMarks (getD words 0 0) (getD words 1 0)))
+unfolding answerRead tokenGood tokenWrong
+answer-names len words passed = rw passed (response-names (getD words 0 0) (getD words 1 0))
 
 -- what the reader's answer Good tells
 pub answer-good : (r : Reading) (f : Response) (len : ℕ) (words : List ℕ) → readingGives r ≡ answerRead len words → r ≡ Good f

@@ -14,8 +14,8 @@ use Rattle.token.specs.declared.response.Response.{Response}
 use Rattle.controller.specs.declared.Reading.{Reading}
 use Rattle.controller.specs.declared.Reading.the-variants.{Good, BadPayload, BadToken, Argument, Count}
 
--- what the answer reader gives, by document 01 and request 6: the refusal number, which of token and payload was good, which marks of a bad token are
--- wrong, and the fields
+-- what the answer reader gives, by document 01 and request 6: the refusal number, which of token and payload was good, which marks of a
+-- bad token are wrong, and the fields
 pub record Answer : Type 0 where
   pub refusal : ℕ
   pub token : Bool

@@ -1,8 +1,11 @@
 -- Which marks are wrong: none where a token is good, and at least one where it is not.
 -- Assumes nothing.
+use Prim.Native.Nat.{ℕ}
 use mathlib.Core.Bool.{Bool, true, false, not, false≢true}
 use mathlib.Core.Path.{_≡_, refl}
+use Rattle.token.specs.Command.{commandMarks, goodCommand, commandWrong, commandRead}
 use Rattle.token.specs.Marks.{goodMarks, noneWrong, anyWrong, wrongMarks}
+use Rattle.token.specs.Response.{responseMarks, goodResponse, responseWrong, responseRead}
 use Rattle.token.specs.declared.marks.Marks.{Marks}
 
 abbrev marks : Bool → Bool → Bool → Marks
@@ -31,3 +34,12 @@ none-wrong m h = go (m .prefix) (m .spare) (m .check) h
     go true true false h = absurd (false≢true h)
     go true false c h = absurd (false≢true h)
     go false s c h = absurd (false≢true h)
+
+-- so a reader names some mark exactly where it says "not good"
+pub command-names : (first second : ℕ) → anyWrong (commandRead first second .wrong) ≡ not (commandRead first second .good)
+unfolding commandRead commandWrong goodCommand
+command-names first second = any-wrong (commandMarks first second)
+
+pub response-names : (first second : ℕ) → anyWrong (responseRead first second .wrong) ≡ not (responseRead first second .good)
+unfolding responseRead responseWrong goodResponse
+response-names first second = any-wrong (responseMarks first second)
