@@ -10,7 +10,8 @@ from pathlib import Path
 sys.dont_write_bytecode = True  # leave no __pycache__ in the repository
 
 from second import (
-    apart, known, marks, pins, port_refusals, ports, ports_pins, refused_calls, sure, trace, unit, vector_records,
+    apart, known, marks, pins, port_refusals, ports, ports_pins, refused_calls, retry_refusals, rounds, sure, trace,
+    unit, vector_records,
 )
 
 # Each file and its maker, which gives the number of records and the content.
@@ -41,6 +42,10 @@ FILES = [
     ("crates/ports_at_pins/stdout", ports_pins.stdout),
     ("crates/port_refusals/stdin", port_refusals.stdin),
     ("crates/port_refusals/stdout", port_refusals.stdout),
+    ("crates/rounds/stdin", rounds.stdin),
+    ("crates/rounds/stdout", rounds.stdout),
+    ("crates/retry_refusals/stdin", retry_refusals.stdin),
+    ("crates/retry_refusals/stdout", retry_refusals.stdout),
     ("examples/document-01.txt", lambda: trace.shown("document-01")),
     ("examples/accident.txt", lambda: trace.shown("accident")),
 ]
@@ -91,7 +96,10 @@ def main(arguments):
     ports.self_test()
     ports_pins.self_test()
     port_refusals.self_test()
+    rounds.self_test()
+    retry_refusals.self_test()
     print(f"crates/unit: {unit.statistic()}")
+    print(f"crates/rounds: {rounds.statistic()}")
     handle = write if arguments else compare
     results = [handle(path, *maker()) for path, maker in FILES]
     return 0 if all(results) else 1

@@ -1,4 +1,7 @@
-"""What the answers to calls and records have in common: the refusal numbers and their order, and a buffer's check."""
+"""What the answers to calls and records have in common: the refusal numbers, their order and which of them should meet,
+and a buffer's check."""
+
+from itertools import combinations
 
 from .checks import crc16
 
@@ -11,6 +14,16 @@ MOST_SIZE = 32768
 def refusal(faults):
     """The number of the first fault in document 01's order, 0 where there is none."""
     return next((number for number in ORDER if faults.get(number)), 0)
+
+
+def met(faults):
+    """The numbers of all faults that there are."""
+    return {number for number, is_met in faults.items() if is_met}
+
+
+def none_each_and_pairs(numbers):
+    """The sets of refusals that a call's records should meet: none, each one alone, and each two together."""
+    return [set(), *({number} for number in numbers), *({*two} for two in combinations(numbers, 2))]
 
 
 def check(buffer):

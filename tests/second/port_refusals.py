@@ -1,11 +1,10 @@
 """What `port_refusals` answers to its stored records: single calls of the card with two ports, and of its pins, each
 with its refusal number and what it left."""
 
-from itertools import combinations
 from typing import NamedTuple
 
 from . import refused_calls
-from .call_answers import ARGUMENT, CLOSED, MOST_SIZE, OPEN, SIZE, STATE, refusal
+from .call_answers import ARGUMENT, CLOSED, MOST_SIZE, OPEN, SIZE, STATE, met, none_each_and_pairs, refusal
 from .card import CLEAN, Card, Message, judge, tell
 from .checks import bits, crc16
 from .known import agree
@@ -295,14 +294,12 @@ def test_ports_alike(record):
 def test_refusals(kind, records):
     """Each refusal is met, alone and with each other one, on each port, and so is a call that is not refused."""
     for port in PORTS:
-        met = [{number for number, is_met in faults(record).items() if is_met} for record in records
-               if record.port == port or not is_port(record)]
-        alone = [{number} for number in REFUSALS[kind]]
-        pairs = [{*two} for two in combinations(REFUSALS[kind], 2)]
-        wanted = [set(), *alone, *(two for two in pairs if kind in WITH_ARGUMENTS or two not in NEVER_OPEN_THERE)]
-        lacking = [sorted(numbers) for numbers in wanted if numbers not in met]
+        found = [met(faults(record)) for record in records if record.port == port or not is_port(record)]
+        never = [] if kind in WITH_ARGUMENTS else NEVER_OPEN_THERE
+        wanted = [numbers for numbers in none_each_and_pairs(REFUSALS[kind]) if numbers not in never]
+        lacking = [sorted(numbers) for numbers in wanted if numbers not in found]
         agree(f"refusals of {kind[0].__name__} {kind[1]} that do not meet", lacking, [])
-        agree(f"refusals of {kind[0].__name__} {kind[1]}", set().union(*met), REFUSALS[kind])
+        agree(f"refusals of {kind[0].__name__} {kind[1]}", set().union(*found), REFUSALS[kind])
 
 
 def self_test():

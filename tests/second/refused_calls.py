@@ -38,14 +38,24 @@ def power_up(size):
     return number, 0 if number else size
 
 
+def has_no_block(code):
+    return code in (READ, READBACK)
+
+
+def build_faults(code, length, sub_address, block, room):
+    wanted = 0 if has_no_block(code) else length
+    argument = code > 63 or length > 63 or sub_address > 255 or block != wanted
+    return {ARGUMENT: argument, ROOM: room < message_words(length)}
+
+
 def build(code, length, sub_address, block, room):
-    empty = code in (READ, READBACK)
-    argument = code > 63 or length > 63 or sub_address > 255 or block != (0 if empty else length)
-    number = refusal({ARGUMENT: argument, ROOM: room < message_words(length)})
+    number = refusal(build_faults(code, length, sub_address, block, room))
     if number:
         return number, 0, check([0xFFFF] * room)
-    payload = [place + 1 for place in range(block)]
-    message = with_answer(code, length, sub_address, 0) if empty else with_payload(code, sub_address, payload)
+    if has_no_block(code):
+        message = with_answer(code, length, sub_address, 0)
+    else:
+        message = with_payload(code, sub_address, [place + 1 for place in range(block)])
     return 0, len(message), check(message + [0xFFFF] * (room - len(message)))
 
 
@@ -80,18 +90,27 @@ def ask(turn, length, sub_address, block, room):
     return number, count, turn if number else turn + 1, left
 
 
-def give(turn, length, sub_address, count, *words):
+def turn_after(turn, token, words):
+    """The turn after these words were given back, where the message between the READBACKs has this token."""
+    if turn == 3:
+        return 4  # not judged
+    found = read_back(words)
+    if turn == 1:
+        return 2 if found and read_command(*found[1]) else UNSURE
+    return DONE if found == (CLEAN, token) else UNSURE
+
+
+def give_words(turn, length, sub_address, words):
     wanted = message_words(length if turn == 3 else 2)
     state = sure_state(turn, length, sub_address)
-    number = refusal({STATE: state, TURN: turn not in (1, 3, 5), COUNT: count != wanted})
+    number = refusal({STATE: state, TURN: turn not in (1, 3, 5), COUNT: len(words) != wanted})
     if number:
         return number, turn
-    if turn == 3:
-        return 0, 4  # not judged
-    found = read_back(given_words(count, *words))
-    if turn == 1:
-        return 0, 2 if found and read_command(*found[1]) else UNSURE
-    return 0, DONE if found == (CLEAN, command_token(WRITE, length, sub_address)) else UNSURE
+    return 0, turn_after(turn, command_token(WRITE, length, sub_address), words)
+
+
+def give(turn, length, sub_address, count, *words):
+    return give_words(turn, length, sub_address, given_words(count, *words))
 
 
 def verdict(turn, length, sub_address):

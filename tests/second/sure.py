@@ -54,6 +54,12 @@ def crossed(card, memory, words, damage):
     return words_of(got + [int(fill == 1)] * (len(line) - len(got))), card, memory
 
 
+def harmless(bit_count, damage):
+    """Whether a damage leaves a message of so many bits as it is."""
+    kind, _, there, back = damage
+    return kind != UNSEEN and there >= bit_count and (kind == CUT or back >= bit_count)
+
+
 class Line:
     """The line with the damages to come, one for each message; those behind the last damage are undamaged."""
 

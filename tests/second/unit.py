@@ -8,7 +8,7 @@ from typing import NamedTuple
 from .addresses import base_of
 from .card import Card
 from .checks import crc16
-from .sure import DONE, UNSURE, Line, between_readbacks
+from .sure import DONE, UNSURE, Line, between_readbacks, harmless
 from .sure_records import CUT, FLIPPED, UNSEEN
 from .trace_records import config_write, write
 from .unit_drawn import drawn_units
@@ -182,11 +182,6 @@ def test_taken(play, before, went):
     count = place + length if block_taken else place
     demand(went.memory == partly(play.table.words, count, before), "another memory than the one taken", play)
     demand(went.card.write_base == base_of(place) or not base_taken, "another base than the one taken", play)
-
-
-def harmless(bit_count, damage):
-    kind, _, there, back = damage
-    return kind != UNSEEN and there >= bit_count and (kind == CUT or back >= bit_count)
 
 
 def test_undamaged(play, went):

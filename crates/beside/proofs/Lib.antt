@@ -3,6 +3,8 @@ pub mod Barred
 pub mod InWords
 pub mod PinsBeside
 pub mod Plays
+pub mod RoundsPlays
+pub mod RoundsTheorem
 pub mod Theorem
 pub mod Timed
 pub mod Walk

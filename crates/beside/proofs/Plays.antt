@@ -1,4 +1,4 @@
--- Computed plays of the sure write beside a busy other port: it can be busy all the time while the verdict is Done, and no premise of the demand is
+-- Computed plays of the sure write, in one round and in two, beside a busy other port: it can be busy all the time while the verdict is Done, and no premise of the demand is
 -- idle. With any one of the excluded commands allowed, demand 3 or its undamaged half fails; on an inactive port it is Unsure with no damage.
 -- Assumes nothing.
 use Prim.Native.Nat.{ℕ, zero, suc}
@@ -42,6 +42,12 @@ use Rattle.controller.specs.declared.Verdict.the-variants.{Done, Unsure}
 use Rattle.delivery.specs.AnyCommand.{lineOf}
 use Rattle.delivery.specs.Delivery.{Side, target, EvenBase, Inside, Room, sureWrite, noDamage, Premises}
 use Rattle.delivery.specs.Play.{ModuleCall, Going, crossed, settings, askedWords, round, between, Buffers, Calls, play}
+use Rattle.delivery.proofs.Examples as one
+use Rattle.retry.specs.Promises.{messageAsked}
+use Rattle.retry.specs.Rounds.{mayRepeat, mayStart, roundsStarted, sureRounds, outOfRounds, counted, settled, roundsAskRefusal, roundsAsked, roundsAskedBuffer, roundsGiveRefusal, roundsGiven, RoundsSaid, roundsVerdictGives, againAt, roundsVerdict}
+use Rattle.retry.specs.declared.RoundsVerdict.the-variants as rounds
+use Rattle.retrying.specs.Retrying.{RoundPassage, tryMessage, tryRound, goesOn, tried, triedTo, RoundsPremises}
+use Rattle.retrying.proofs.Examples.{Three, passagesOf, untold, eight-rounds}
 use Rattle.two_ports.specs.State as two
 use Rattle.two_ports.specs.State.{live, freshPorts, isPort, seenFrom, view, viewFrom}
 use Rattle.two_ports.specs.Ports.{refusalAt, poweredPorts, portsModuleRefusal, modulePorts, portsSelectRefusal, selectNear, selectedPorts, portsWordRefusal, tellNear, wordNear, toldPorts, takeNear, tookPorts, portsReleaseRefusal, basesMoved, switched, farMoved, releaseLive, releaseDead, releaseNear, releasedPorts, memoryNear, memoryAfterPorts}
@@ -219,6 +225,18 @@ switchesOffAtPins = saysAtPins (command (deactivate .code) 0 0) []
 abbrev pub setsReadBase : List WordCall
 setsReadBase = says (command (configRead .code) 2 0) (baseBlock 4)
 
+-- ---- two rounds of the sure write on port 0, word by word. Each has 37 calls, as the sure write has.
+
+-- what befalls the rounds, with buffers that are just long enough
+abbrev pub passagesBeside : List Three → ℕ → RoundPassage
+passagesBeside ds i = record { buffers = buffers; fates = passagesOf ds i .fates }
+
+-- the last answer of round 1 is lost, so that round 2 follows: its verdict, the memory after it, and the commands of the other port that were accepted meanwhile
+unfoldable pub inTwoRounds : List (List WordCall) → RoundsSaid × List ℕ × List ℕ
+inTwoRounds coming =
+    let g = triedTo (besideOn portsInWords 0) (starting portsInWords poweredUp coming) oldWords (sureRounds 1 1 2) (7 ∷ []) (passagesBeside (untold ∷ [])) 2 in
+    (roundsVerdict (g .state), g .memory, g .side .accepted)
+
 -- ---- word by word
 
 pub record Plays : Type 0 where
@@ -233,6 +251,11 @@ pub record Plays : Type 0 where
   -- WRITE: behind port 0's WRITE port 1 writes to another place, or over the block. Done, but the memory is not the old one with the block.
   pub written-beside : toldOf (disturbed poweredUp 24 (says (writesTo 2) (9 ∷ []))) ≡ tells Done (1 ∷ 7 ∷ 9 ∷ 4 ∷ []) (write .code ∷ [])
   pub written-over : toldOf (disturbed poweredUp 24 (says (writesTo 1) (9 ∷ []))) ≡ tells Done (1 ∷ 9 ∷ 3 ∷ 4 ∷ []) (write .code ∷ [])
+  -- two rounds beside a port that is busy in both; and with its CONFIG WRITE accepted between them: Done, but the block is in two places, so that the
+  -- premise has to span both rounds
+  pub busy-rounds : inTwoRounds (busy ++ busy) ≡ (roundsVerdictGives rounds.Done, 1 ∷ 7 ∷ 3 ∷ 4 ∷ [], busyCodes ++ busyCodes)
+  pub moved-between-rounds : inTwoRounds (before 37 (says baseCommand (baseBlock 4)))
+      ≡ (roundsVerdictGives rounds.Done, 1 ∷ 7 ∷ 3 ∷ 7 ∷ [], configWrite .code ∷ [])
   -- CONFIG WRITE: before the select of port 0's WRITE port 1 sets the write base. Done, but the block is elsewhere; and Unsure by an odd base.
   pub base-moved : toldOf (disturbed poweredUp 13 (says baseCommand (baseBlock 4))) ≡ tells Done (1 ∷ 2 ∷ 3 ∷ 7 ∷ []) (configWrite .code ∷ [])
   pub base-made-odd : toldOf (disturbed poweredUp 13 (says baseCommand (baseBlock 3))) ≡ tells Unsure oldWords (configWrite .code ∷ [])
@@ -265,7 +288,7 @@ pub record PlaysAtPins : Type 0 where
   pub off-inside : toldOf (end portsAtPins 0 poweredUpPins (before 122 switchesOffAtPins)) ≡ tells Unsure oldWords (deactivate .code ∷ [])
 
 all-plays : Plays × PlaysAtPins
-unfolding buffers toldOf whatElse viewOf before pairs says saysAtPins busy busyAtPins afterCalls based off opened without
+unfolding buffers toldOf whatElse viewOf inTwoRounds one.quiet passagesOf before pairs says saysAtPins busy busyAtPins afterCalls based off opened without
     bits number stream shift step feed crc taps4 taps16 crc4 crc16After agrees words wholeWords bitsLeft flipAt flipped filled
     table rowIn ruleOf messageWords commandFirst commandUpper commandSecond commandFits commandMarks goodCommand commandFields
     withCheck checkRight goodMarks responseFirst responseSecond responseMarks goodResponse responseFields responseRead
@@ -276,6 +299,8 @@ unfolding buffers toldOf whatElse viewOf before pairs says saysAtPins busy busyA
     isReading withCheckWord payload message blockFits buildRefusal bufferAfter
     commandAt isAsk isGive readGood passes isToken confirms turnAfter started controller.outOfRange askRefusal asked askedBuffer giveRefusal given verdictOf
     listed crossed settings askedWords round between play
+    mayRepeat mayStart roundsStarted outOfRounds counted settled roundsAskRefusal roundsAsked roundsAskedBuffer roundsGiveRefusal roundsGiven againAt roundsVerdict
+    messageAsked tryMessage tryRound goesOn tried
     two.outOfRange live freshPorts isPort seenFrom view refusalAt poweredPorts portsModuleRefusal modulePorts portsSelectRefusal selectNear selectedPorts
     portsWordRefusal tellNear wordNear toldPorts takeNear tookPorts portsReleaseRefusal basesMoved switched farMoved releaseLive releaseDead releaseNear
     releasedPorts memoryNear memoryAfterPorts
@@ -291,6 +316,8 @@ all-plays = (
     busy-other = refl;
     written-beside = refl;
     written-over = refl;
+    busy-rounds = refl;
+    moved-between-rounds = refl;
     base-moved = refl;
     base-made-odd = refl;
     by-its-base = refl;
@@ -359,6 +386,15 @@ met-beside-at-pins coming = record {
   words = met-words;
   room = met-room;
 }
+
+-- those of rounds, whatever befalls them
+pub met-rounds-beside : (ds : List Three) (coming : List (List WordCall))
+    → RoundsPremises (besideOn portsInWords 0) (starting portsInWords poweredUp coming) oldWords 1 (7 ∷ []) 8 (passagesBeside ds)
+met-rounds-beside ds coming = record { first = met-beside coming; rounds = eight-rounds; room = λ i allowed. met-room }
+
+pub met-rounds-beside-at-pins : (ds : List Three) (coming : List (List PinCall))
+    → RoundsPremises (besideOn portsAtPins 0) (starting portsAtPins poweredUpPins coming) oldWords 1 (7 ∷ []) 8 (passagesBeside ds)
+met-rounds-beside-at-pins ds coming = record { first = met-beside-at-pins coming; rounds = eight-rounds; room = λ i allowed. met-room }
 
 -- none of the excluded commands is among those accepted while the other port is busy
 pub met-none : NoneOf excluded busyCodes

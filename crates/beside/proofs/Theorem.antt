@@ -86,7 +86,7 @@ module _ (layer : Layer) (p : ℕ) (all : Demand3 (besideBut layer excluded p)) 
   but = besideBut layer excluded p
 
   -- premises and meaning do not speak of how a message is heard
-  premises : {s : Beside layer} {memory : List ℕ} {sub : ℕ} {block : List ℕ} {b : Buffers} → Premises free s memory sub block b
+  pub premises : {s : Beside layer} {memory : List ℕ} {sub : ℕ} {block : List ℕ} {b : Buffers} → Premises free s memory sub block b
       → Premises but s memory sub block b
   premises h = record {
     run = h .run;

@@ -34,13 +34,13 @@ module _ (layer : Layer) (barred : List ℕ) (p : ℕ) where
 
   -- ---- a message with its damage
 
-  crossed-keeps : (d : Damage) (b : B) (memory : List ℕ) (line : List Bool) → None (crossed (free .hears) d b memory line .side) → None b
+  pub crossed-keeps : (d : Damage) (b : B) (memory : List ℕ) (line : List Bool) → None (crossed (free .hears) d b memory line .side) → None b
   unfolding crossed
   crossed-keeps (Unseen fill) b memory line none = none
   crossed-keeps (Cut k fill) b memory line none = heard-keeps layer barred p b memory (take k line) none
   crossed-keeps (Flipped i j) b memory line none = heard-keeps layer barred p b memory _ none
 
-  crossed-same : (d : Damage) (b : B) (memory : List ℕ) (line : List Bool) → None (crossed (free .hears) d b memory line .side)
+  pub crossed-same : (d : Damage) (b : B) (memory : List ℕ) (line : List Bool) → None (crossed (free .hears) d b memory line .side)
       → crossed (but .hears) d b memory line ≡ crossed (free .hears) d b memory line
   unfolding crossed
   crossed-same (Unseen fill) b memory line none = refl
@@ -48,7 +48,7 @@ module _ (layer : Layer) (barred : List ℕ) (p : ℕ) where
   crossed-same (Flipped i j) b memory line none = rw (nothing-left-out layer barred p b memory _ none)
 
   -- the device's calls
-  set-keeps : (calls : List ModuleCall) (b : B) → settings (free .sets) calls b .accepted ≡ b .accepted
+  pub set-keeps : (calls : List ModuleCall) (b : B) → settings (free .sets) calls b .accepted ≡ b .accepted
   unfolding settings
   set-keeps [] b = refl
   set-keeps (m ∷ calls) b = set-keeps calls (free .sets b (m .stf) (m .state))

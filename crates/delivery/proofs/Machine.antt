@@ -70,23 +70,23 @@ given-at s ws h t n = rw (h, t, eq-eqb _ _ n)
 
 -- ---- the turns of the three messages
 
-record Turns (middle : Command) (turn : ℕ) (t : Command) : Type 0 where
-  small : turn ≤ 6
-  ask : isAsk turn ≡ true
-  give : isGive (turn + 1) ≡ true
-  asks : commandAt middle turn ≡ t
-  gives : commandAt middle (turn + 1) ≡ t
+pub record Turns (middle : Command) (turn : ℕ) (t : Command) : Type 0 where
+  pub small : turn ≤ 6
+  pub ask : isAsk turn ≡ true
+  pub give : isGive (turn + 1) ≡ true
+  pub asks : commandAt middle turn ≡ t
+  pub gives : commandAt middle (turn + 1) ≡ t
 
 module _ (middle : Command) (turn : ℕ) where
-  first-turns : turn ≡ 0 → Turns middle turn readbackCommand
+  pub first-turns : turn ≡ 0 → Turns middle turn readbackCommand
   unfolding commandAt isAsk isGive
   first-turns e = rw e (record { small = lit≤ tt; ask = refl; give = refl; asks = refl; gives = refl })
 
-  middle-turns : turn ≡ 2 → Turns middle turn middle
+  pub middle-turns : turn ≡ 2 → Turns middle turn middle
   unfolding commandAt isAsk isGive
   middle-turns e = rw e (record { small = lit≤ tt; ask = refl; give = refl; asks = refl; gives = refl })
 
-  last-turns : turn ≡ 4 → Turns middle turn readbackCommand
+  pub last-turns : turn ≡ 4 → Turns middle turn readbackCommand
   unfolding commandAt isAsk isGive
   last-turns e = rw e (record { small = lit≤ tt; ask = refl; give = refl; asks = refl; gives = refl })
 

@@ -53,7 +53,7 @@ module _ (side : Side) (l : Lawful side) where
     abbrev w : Command
     w = writeOf (length block) sub
 
-    sends : Sends side s memory w block
+    pub sends : Sends side s memory w block
     unfolding blockFits isReading
     sends =
         record {
@@ -72,7 +72,7 @@ module _ (side : Side) (l : Lawful side) where
       took : Took (side .alone) (called side s calls) memory w block c′ memory′
       took = acted-then side l sends calls a
 
-      acted-written : BlockWritten (side .card s) memory sub block memory′
+      pub acted-written : BlockWritten (side .card s) memory sub block memory′
       acted-written =
           let same : Aside (side .card s) (called side s calls) = called-aside side l (p .run) calls in (
             rw (same .bases) at (write-even (length block) sub (p .short) (p .sub-address) (called side s calls .size) (called side s calls .bases) (took .passed)),
@@ -82,12 +82,12 @@ module _ (side : Side) (l : Lawful side) where
                 ∙ ap (λ (b : Bases). written memory (wordPlace (b .«write_base») sub) block) (same .bases),
           )
 
-      acted-kept : Kept (side .alone) (called side s calls) c′
+      pub acted-kept : Kept (side .alone) (called side s calls) c′
       acted-kept =
           kept-trans (called side s calls) (cardActed (called side s calls) (message w block)) c′ (kept-either (side .alone) (write-acted sub block (p .short) (p .sub-address) (called side s calls))) (took .card)
 
     -- and one whose base is even and whose block is inside is accepted
-    inside-accepted : EvenBase (side .card s) → Inside (side .card s) sub block → Accepts (side .card s) memory w block
+    pub inside-accepted : EvenBase (side .card s) → Inside (side .card s) sub block → Accepts (side .card s) memory w block
     inside-accepted even inside =
         passes-accepted side l sends (write-passes (length block) sub (p .short) (p .sub-address) (side .card s .size) (side .card s .bases) even inside)
 

@@ -27,13 +27,13 @@ use token::response::any_set;
 // The turns: each message is asked for, and then the words that came back with it are given.
 pub const ASK_FIRST: u8 = 0;
 
-const GIVE_FIRST: u8 = 1;
+pub const GIVE_FIRST: u8 = 1;
 
 pub const ASK_COMMAND: u8 = 2;
 
-const GIVE_COMMAND: u8 = 3;
+pub const GIVE_COMMAND: u8 = 3;
 
-const ASK_LAST: u8 = 4;
+pub const ASK_LAST: u8 = 4;
 
 pub const GIVE_LAST: u8 = 5;
 

@@ -1,0 +1,2 @@
+pub mod RoundCalls
+pub mod Unique
