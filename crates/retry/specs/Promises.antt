@@ -46,7 +46,7 @@ wordsBuilt s [] = 0
 wordsBuilt s (Ask block buffer ∷ calls) = length (messageAsked s block buffer) + wordsBuilt (roundsAsked s block (length buffer) .state) calls
 wordsBuilt s (Give words ∷ calls) = wordsBuilt (roundsGiven s words .state) calls
 
--- from every start that is not refused: the words reported are that sum, and at most r times (n + 13)
+-- from every start that is not refused: the words reported are that sum, and for a length of n at most r times (n + 13)
 abbrev pub Reported : Type 0
 Reported = (t : Command) (most : ℕ) → roundsStarted t most .refusal ≡ refusal.None → (calls : List RoundsCall)
     → let s = roundsStarted t most .state in

@@ -26,8 +26,8 @@ use Rattle.retry.specs.declared.WordsLaid.{WordsLaid}
 abbrev pub rounds : Command → ℕ → ℕ → ℕ → ℕ → Rounds
 rounds t most early late turn = record { command = t; most = most; early = early; late = late; turn = turn }
 
--- a command that may be sent again: it has a token, and is neither READBACK, whose token is the last one anyway, nor TICK, which acted twice
--- is not TICK acted once. Whether it may be does not hang on the number of rounds.
+-- a command that may be sent again: it has a token, and is neither READBACK, whose token is the last one anyway, nor TICK: acted twice it is not
+-- acted once. Whether it may be does not hang on the number of rounds.
 unfoldable pub mayRepeat : Command → Bool
 mayRepeat t = commandFits t && not (eqb (t .code) (readback .code)) && not (eqb (t .code) (tick .code))
 

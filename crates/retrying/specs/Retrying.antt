@@ -93,7 +93,7 @@ RoundsUnsure end = roundsVerdict (end .state) .unsure ≡ true
 -- ---- the words laid out for the bus
 
 -- after any number of rounds, whatever befalls them and whatever buffers are lent: the words reported are the sum of the lengths of the messages
--- built, and at most r times (n + 13)
+-- built, and at most r times the command's length and 13
 abbrev pub WordsReported : Side → Type 0
 WordsReported side = (s : side .State) (memory : List ℕ) (t : Command) (most : ℕ) → roundsStarted t most .refusal ≡ refusal.None
     → (block : List ℕ) (passages : ℕ → RoundPassage) (n : ℕ)
@@ -142,7 +142,7 @@ pub record RoomFor (t : Command) (b : Buffers) : Type 0 where
   pub second : messageWords (t .length) ≤ length (b .second)
   pub third : messageWords (readback .«most_length») ≤ length (b .third)
 
--- what any command in the middle may be, by demand 3, but TICK, which acted twice is not TICK acted once; 1 to 8 rounds, and room in each
+-- any command that demand 3 takes in the middle, but TICK: acted twice it is not acted once; 1 to 8 rounds, and room in each
 pub record RoundsSend (side : Side) (s : side .State) (memory : List ℕ) (t : Command) (block : List ℕ) (most : ℕ) (passages : ℕ → RoundPassage) : Type 0 where
   pub sends : Sends side s memory t block
   pub no-tick : t .code ≡ tick .code → ⊥
@@ -171,7 +171,7 @@ pub record RoundsMeaning (side : Side) (s : side .State) (memory : List ℕ) (su
   pub either : (end .memory ≡ memory) ⊎ BlockWritten (side .card s) memory sub block (end .memory)
   pub tries : Tries most n end
   pub unrefused : end .refused ≡ []
-  -- the words reported are the sum over the messages built, and at most r times (n + 13)
+  -- the words reported are the sum over the messages built, and at most r times the block's words and 13
   pub reports : wordsLaid (end .state) ≡ record { refusal = refusal.None; words = end .laid }
   pub bounded : end .laid ≤ most * (length block + 13)
   -- the card is kept, with STF and module state as the device's own calls leave them, and it is one that was run from power-up
