@@ -5,10 +5,8 @@ use mathlib.Core.Bool.{Bool, true, false, cond, not, false≢true}
 use mathlib.Core.List.{List, [], ◌∷◌}
 use mathlib.Core.Path.{◌≡◌, refl, sym, ap, ◌∙◌}
 use borrow.Author.Tests.{eqb-true, leb-true}
-use denote.Enum.Declared.{tag_of}
 use lib.Dec.{eqb, leb, lit<}
 use lib.ListN.{length, get_or}
-use types.Run.{OneOf, miss}
 use Rattle.rules.specs.Refusals as refusal
 use Rattle.rules.specs.Rules.{message_words}
 use Rattle.token.specs.Answers.{Read}
@@ -24,7 +22,6 @@ use Rattle.controller.specs.Reader.{Answer, reading_gives, read_refusal, token_g
 use Rattle.controller.specs.declared.Reading.{Reading}
 use Rattle.controller.specs.declared.Reading.TheVariants.{Good, BadPayload, BadToken, Argument, Count}
 use Rattle.controller.proofs.MessageLaws.{passed-by}
-use Rattle.controller.specs.contracts.Reading.{the_type}
 
 -- an answer that is not refused has a length up to 63, and as many words as that asks for
 pub read-passed : (len count : ℕ) → read_refusal len count ≡ refusal.none → (len ≤ 63) × (count ≡ message_words len)
@@ -77,8 +74,8 @@ answer-good r f len words read good =
     let shown : (answer_read len words).payload ≡ true = sym (ap (λ (a : Answer). a.payload) same) in
     record { shown = shown; fields = sym (ap (λ (a : Answer). a.fields) same); count = good-count len words shown }
 
-not-good : (r : Reading) → OneOf (1 ∷ 2 ∷ 3 ∷ 4 ∷ []) (tag_of the_type r) → (reading_gives r).payload ≡ false
-not-good (Good f) k = absurd (miss (1 ∷ 2 ∷ 3 ∷ 4 ∷ []) 0 tt k)
+not-good : (r : Reading) → ((f : Response) → r ≡ Good f → ⊥) → (reading_gives r).payload ≡ false
+not-good (Good f) k = absurd (k f refl)
 not-good (BadPayload f) k = refl
 not-good (BadToken w) k = refl
 not-good Argument k = refl
@@ -86,6 +83,6 @@ not-good Count k = refl
 
 -- what each other answer tells: there is no payload to show
 pub answer-not-good : (r : Reading) (len : ℕ) (words : List ℕ) → reading_gives r ≡ answer_read len words
-    → OneOf (1 ∷ 2 ∷ 3 ∷ 4 ∷ []) (tag_of the_type r)
+    → ((f : Response) → r ≡ Good f → ⊥)
     → (answer_read len words).payload ≡ false
 answer-not-good r len words read k = sym (ap (λ (a : Answer). a.payload) read) ∙ not-good r k

@@ -257,7 +257,7 @@ module _ (t : Command) (block : List ℕ) where
   calls-acted : {c : Card} → Shut c → (calls : List ModuleCall) → after_calls calls (card_acted c (message t block)) ≡ card_acted (after_calls calls c) (message t block)
   unfolding settings
   calls-acted s [] = refl
-  calls-acted s (m ∷ calls) = ap (after_calls calls) (set-acted s m.stf m.state) ∙ calls-acted (set-shut s m.stf m.state) calls
+  calls-acted {c = c} s (m ∷ calls) = ap (after_calls calls) (set-acted s m.stf m.state) ∙ calls-acted {c = (module_set c m.stf m.state).card} (set-shut s m.stf m.state) calls
 
   pub acted-called : {c c' : Card} → Shut c → (calls : List ModuleCall)
       → Kept true (card_acted c (message t block)) c' → Kept true (card_acted (after_calls calls c) (message t block)) (after_calls calls c')

@@ -1,5 +1,6 @@
 -- How a damaged command ends: no bit was seen, or it is refused whole, or it is taken as it was built. And no call is refused.
 -- Assumes nothing.
+use Rattle.card.specs.Exchange.{exchanged}
 use Prim.Native.Nat.{ℕ, suc, ◌+◌, ◌*◌, ◌/◌, ◌%◌, ◌≤◌}
 use native.Mathlib.Omega.{arith}
 use mathlib.Core.Path.{◌≡◌, refl, sym, ap, ◌∙◌}
@@ -142,7 +143,7 @@ crossed-idle c memory idle (bits_flipped i j) line = heard-idle c memory idle (f
 run-after : {c : Card} → Run c → (memory ws : List ℕ) → Run (after c memory ws)
 unfolding after
 run-after r memory [] = r
-run-after r memory (w ∷ ws) = run-after (word-run r memory w) memory ws
+run-after {c = c} r memory (w ∷ ws) = run-after {c = (exchanged c memory w).card} (word-run r memory w) memory ws
 
 pub run-heard : {c : Card} → Run c → (memory : List ℕ) (line : List Bool) → Run (heard c memory line).side
 unfolding heard card_after_line listened

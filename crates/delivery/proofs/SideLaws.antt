@@ -54,18 +54,18 @@ module _ (side : Side) (l : Lawful side) where
   pub settings-runs : {s : side.State} → side.Runs s → (calls : List ModuleCall) → side.Runs (settings side.sets calls s)
   unfolding settings
   settings-runs r [] = r
-  settings-runs r (m ∷ calls) = settings-runs (l.runs_set r m.stf m.state) calls
+  settings-runs {s = s} r (m ∷ calls) = settings-runs {s = side.sets s m.stf m.state} (l.runs_set r m.stf m.state) calls
 
   pub called-aside : {s : side.State} → side.Runs s → (calls : List ModuleCall) → Aside (side.card s) (called side s calls)
   unfolding settings
   called-aside r [] = record { size = refl; bases = refl; port = refl }
-  called-aside {s} r (m ∷ calls) = aside-trans (l.set_stays s r m.stf m.state) (called-aside (l.runs_set r m.stf m.state) calls)
+  called-aside {s = s} r (m ∷ calls) = aside-trans (l.set_stays s r m.stf m.state) (called-aside {s = side.sets s m.stf m.state} (l.runs_set r m.stf m.state) calls)
 
   called-card : side.alone ≡ true → {s : side.State} → side.Runs s → (calls : List ModuleCall) → called side s calls ≡ after_calls calls (side.card s)
   unfolding settings
   called-card e r [] = refl
   called-card e {s} r (m ∷ calls) =
-      called-card e (l.runs_set r m.stf m.state) calls ∙ ap (after_calls calls) (l.same_set e s r m.stf m.state)
+      called-card e {s = side.sets s m.stf m.state} (l.runs_set r m.stf m.state) calls ∙ ap (after_calls calls) (l.same_set e s r m.stf m.state)
 
   -- more of them
   called-then : (s : side.State) (calls more : List ModuleCall) → called side s (calls ++ more) ≡ called side (settings side.sets calls s) more

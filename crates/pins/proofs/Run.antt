@@ -177,7 +177,7 @@ module _ (p : Pins) (memory other : List ℕ) (bit : Bool) (later : 0 < p.shifte
 bits-run : {p : Pins} → RunPins p → (memory : List ℕ) (line : List Bool) → RunPins (ran p memory line).pins
 unfolding ran
 bits-run r memory [] = r
-bits-run r memory (b ∷ line) = bits-run (clock r memory b) memory line
+bits-run {p = p} r memory (b ∷ line) = bits-run {p = (clocked p memory b).pins} (clock r memory b) memory line
 
 pub message-run : {p : Pins} → RunPins p → (memory : List ℕ) (line : List Bool) → RunPins (heard_at_pins p memory line).side
 unfolding heard_at_pins released_after

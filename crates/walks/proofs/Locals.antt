@@ -1,6 +1,6 @@
 -- What a walk needs that lends a local: a local that holds a plain value is lent for a lifetime that is made for it, and is back, at its last value, once the lifetime is ended.
 --     lends-mut, ends-mut      by `&mut`: the lifetime's token, the reference and the lender's part for the local's cell; and the cell again, at the last value
---     lends_shr, ends-shr      by `&`: the same, and the value stays
+--     lends-shr, ends-shr      by `&`: the same, and the value stays. Where the type is lent so (`Plain.antt`'s `Lends`).        lends_shr_by    by the type's law of sharing
 --     lends-part, ends-part    the first k elements of an array, by `&mut`: what lies behind them stays with the walk; and the array's cell again, at their last values
 -- A local's cell stands at the type itself and memory's at its raw form. A plain type has one machine value, and so one MIR type τ: `refl` says which.
 -- Assumes `Logic`.
@@ -9,7 +9,7 @@ use mathlib.Core.Path.{◌≡◌, refl, sym, subst}
 use mathlib.Core.List.{List, [], ◌∷◌, ◌++◌}
 use lib.ListN.{length, take, drop as dropped, take-append-drop}
 use seplogic.Ra.Ura.{Ura}
-use seplogic.Ra.TreeShare.{full_share}
+use base.Fraction.{full_share}
 use mir.Syntax.{Lifetime, Ty, named}
 use mir.Val.{Val, vptr}
 use base.Logic.{ent}
@@ -24,15 +24,20 @@ use denote.Laws.{Is, shows}
 use denote.Array.{Array}
 use denote.ArrayMemory.{Single, Array-apart, Array-whole}
 use denote.Index.{row, whole_in, whole_out}
-use denote.Lend.{Held, lends_ref, ref_back, lends_shr as Lends-shared, lends_slice, slice_back}
-use denote.Memory.{cell_at, mem, part_at, part_of, shares}
-use denote.Ref.{MutBor, MutRef, ShrRef}
+use denote.Lend.{Held, lends_ref, ref_back, lends_free, lends_shr as lends_by_law, lends_slice, slice_back}
+use denote.Memory.{cell_at, mem, part_at, part_of, shared_of, shares}
+use denote.Shares.{SharesFrom}
+use denote.Ref.{Bor, MutBor, MutRef, ShrRef}
 use denote.Slice.{MutSlice, Room, finally, slice_val}
 use denote.Steps.{peeks}
 use borrow.Table.Elements.{at, cut_app, join_app}
-use Rattle.walks.proofs.Plain.{Plain, IsA, array_plain, owns-it}
+use Rattle.walks.proofs.Plain.{Plain, IsA, Lends, array_plain, owns-it}
 
--- the loan of the local at l, under the name γ
+-- the `&` to the local at l
+abbrev pub seen : {X : Type 0} → X → ℕ → Bor X
+seen x l = record { ref_ptr = (l, 0); now = x }
+
+-- the `&mut` loan of the local at l, under the name γ
 abbrev pub loan : {X : Type 0} → X → ℕ → GName → MutBor X
 loan x l γ = record { ref_ptr = (l, 0); ghost_name = γ; now = x }
 
@@ -71,12 +76,21 @@ module _ {M : Type 1} {𝓤 : Ura M} {𝓛 : Logic 𝓤} {K : Type 0} {Γ : List
   ends-mut t z p one {ν} {γ} x l k = lft_end t z $ use3 𝓛 (later (‵ ((mem R).own_at x l 0))) (ref_back 𝓛 R (ν ∷ []) γ x l 0) $ await t z $ lies-out t p one x l k
 
   -- ---- by `&`
-  pub lends_shr : K → Soaks G → (p : Plain R) {τ : Ty} → R.mir ≡ τ ∷ [] → (ℓ : Lifetime) (x : R.Denot) → IsA p x → (l : ℕ)
-      → ((ν : ℕ) (γ : GName) → Seq K 𝓛 (‵ (flft (ν ∷ []) full_share) ∷ ‵ ((ShrRef ℓ (ν ∷ []) R).own_val (loan x l γ) (vptr l 0 ∷ [])) ∷ ‵ (flent (ν ∷ []) (part_at R full_share x l 0)) ∷ Γ) G)
+  pub lends-shr : K → Soaks G → (p : Plain R) → Lends 𝓛 R → {τ : Ty} → R.mir ≡ τ ∷ [] → (ℓ : Lifetime) (x : R.Denot) → IsA p x → (l : ℕ)
+      → ((ν : ℕ) → Seq K 𝓛 (‵ (flft (ν ∷ []) full_share) ∷ ‵ ((ShrRef ℓ (ν ∷ []) R).own_val (seen x l) (vptr l 0 ∷ [])) ∷ ‵ (flent (ν ∷ []) (part_at R full_share x l 0)) ∷ Γ) G)
       → Seq K 𝓛 (‵ (fat full_share τ l 0 (p.val x)) ∷ Γ) G
-  lends_shr t z p one ℓ x is l k = lies-in t p one x is l $ lft_new t z (λ ν. move t (1 ∷ []) $
-      use1 𝓛 (later (some (λ (γ : GName). ‵ ((ShrRef ℓ (ν ∷ []) R).own_val (loan x l γ) (vptr l 0 ∷ [])) ⊛ ‵ (flent (ν ∷ []) (part_at R full_share x l 0))))) (Lends-shared 𝓛 R ℓ (ν ∷ []) full_share x l 0) $
-      await t z $ pick t (λ γ. split t $ move t (2 ∷ []) $ k ν γ))
+  lends-shr t z p lends one ℓ x is l k = lies-in t p one x is l $ lft_new t z (λ ν. move t (1 ∷ []) $
+      use1 𝓛 (later (‵ ((ShrRef ℓ (ν ∷ []) R).own_val (seen x l) (vptr l 0 ∷ [])) ⊛ ‵ (flent (ν ∷ []) (part_at R full_share x l 0)))) (lends_free 𝓛 R ℓ (ν ∷ []) full_share x l 0 (lends x l 0)) $
+      await t z $ split t $ move t (2 ∷ []) $ k ν)
+
+  -- whatever the type's `&` is, by its law of sharing at the lifetime that is made
+  pub lends_shr_by : K → Soaks G → (p : Plain R) {τ : Ty} → R.mir ≡ τ ∷ [] → (ℓ : Lifetime) (x : R.Denot) → ((ν : ℕ) → SharesFrom 𝓛 full_share R x (shared_of R x) (ν ∷ [])) → IsA p x → (l : ℕ)
+      → ((ν : ℕ) → Seq K 𝓛 (‵ (flft (ν ∷ []) full_share) ∷ ‵ ((ShrRef ℓ (ν ∷ []) R).own_val (seen x l) (vptr l 0 ∷ [])) ∷ ‵ (flent (ν ∷ []) (part_at R full_share x l 0)) ∷ Γ) G)
+      → Seq K 𝓛 (‵ (fat full_share τ l 0 (p.val x)) ∷ Γ) G
+  lends_shr_by t z p one ℓ x law is l k = lies-in t p one x is l $ lft_new t z (λ ν. move t (1 ∷ 0 ∷ []) $
+      use2 𝓛 (later ((‵ ((ShrRef ℓ (ν ∷ []) R).own_val (seen x l) (vptr l 0 ∷ [])) ⊛ ‵ (flent (ν ∷ []) (part_at R full_share x l 0))) ⊛ ‵ (flft (ν ∷ []) full_share)))
+      (lends_by_law 𝓛 R ℓ (ν ∷ []) full_share x l 0 (ν ∷ []) (law ν) ((ν ∷ [], full_share) ∷ []) (λ a m. m) (λ a m. m)) $
+      await t z $ split t $ split t $ move t (2 ∷ []) $ k ν)
 
   pub ends-shr : K → Soaks G → (p : Plain R) {τ : Ty} → R.mir ≡ τ ∷ [] → {ν : ℕ} (x : R.Denot) (l : ℕ)
       → (IsA p x → Seq K 𝓛 (‵ (fat full_share τ l 0 (p.val x)) ∷ Γ) G)

@@ -1,9 +1,11 @@
 -- Plain types in a walk: numbers, bools, arrays, and the structs and enums of such that a crate declares. What a plain value owns is a fact about it, so a walk need not carry it: it is dropped where it comes and made where it is asked for.
---     Plain R          R's machine value as a function of its denotation, with the laws that a walk uses.        struct-plain, enum-plain, array-plain, uint-plain, bool-plain, unit-plain
+--     Plain R          R's machine value as a function of its denotation, with the laws that a walk uses.        struct_plain, enum_plain, array_plain, uint_plain, bool-plain, unit-plain
 --     IsA p x          x is a value of the type.        is-spelt    so is whatever is owned, at the machine value written out
 --     owns-it          what x owns, made of that fact
 --     opens-plain, closes-plain    a `&mut` to a plain value is opened, with its machine value written out, and closed at another value
---     looks-plain      a `&` to a plain value is looked into, with its machine value written out
+--     looks-plain      a `&` to a plain value is looked into, with its machine value written out, where a `&` to it is opened (`Opens.antt`)
+--     copied-opens, whole-opens    so is one to each type that is Copy: by the type's own law (`Copied.antt`), or where its `&` is the shares of the whole value (`Shares.antt`'s `Whole`)
+--     Lends 𝓛 R        a value of the type is lent as `&` with no token.        copied-lends, whole-lends    so is one of each type that is Copy, and of each whose `&` is the shares of the whole value
 --     elem-plain, put-plain        the element at i is taken out of a row of plain values, and another is put in its place.        back-plain      it is put back as it was
 --     calls-lent       a call of a function whose result is plain, and which is handed a reference: the tokens come back, and the result r and the last values ws are known by the callee's clause φ r ws
 --     calls-plain      the same where the parameters are plain too: the context stays as it is, and the result r is known by the callee's clause φ r
@@ -13,12 +15,12 @@ use Prim.Native.Nat.{ℕ, ◌<◌}
 use mathlib.Core.List.{List, [], ◌∷◌}
 use lib.ListN.{length, get_or, set}
 use seplogic.Ra.Ura.{Ura}
-use seplogic.Ra.TreeShare.{full_share}
-use mir.Syntax.{Width, Name, Place, Opd as Operand, Body as Code, seq, call}
+use base.Fraction.{full_share}
+use mir.Syntax.{Width, Callee, Place, Opd as Operand, Body as Code, seq, call}
 use mir.Val.{Val, vunit, vbool, vint}
 use base.Logic.{SProp, ent, sep, ex, emp, id⊢}
 use base.Stored.{Gv}
-use base.Fml.{Lft, GName, Share, Fml, ftrue, flft, fobs, fauth, fbor, fobor, fshr_bor}
+use base.Fml.{Lft, GName, Share, Fml, ftrue, flft, fobs, fauth, fbor, fobor}
 use prog.Wp.{Env, Calls, Loops}
 use types.Logic.{Logic, sem}
 use sound.WpLaws.{FmC}
@@ -28,7 +30,11 @@ use types.Run.{Opds}
 use types.SemTy.{Body}
 use denote.RattleType.{RattleType}
 use denote.Laws.{Is, Tells, Makes, Lawful, Copy, shows}
-use denote.Memory.{cell_at, mem, part_at, shares}
+use denote.Memory.{cell_at, hidden_shr, mem, part_at, shared_of, shares}
+use denote.Opens.{Opens, Shut}
+use denote.Lends.{Lent, Lent-one}
+use denote.Shares.{Whole}
+use denote.Copied.{Copied, whole-copied}
 use denote.Plain.{UInt, Boolean, Nothing, uint_Tells, uint_Makes, uint_Lawful, bool_Tells, bool_Makes, bool_Lawful, Nothing-Tells, Nothing-Makes, Nothing-Lawful}
 use denote.Array.{Array, array_vals, Array-Tells, Array-Makes, Array-Lawful}
 use denote.Index.{place, others, row, elem_out, elem_back, elem_put}
@@ -79,6 +85,24 @@ module _ {R : RattleType} (p : Plain R) where
   pub is-spelt : (x : R.Denot) (vs : List Val) → Is R x vs → IsA x
   is-spelt x vs is = subst (Is R x) (p.tells x vs is) is
 
+-- a value of the type is lent as `&` with no token. So is each type that is Copy, and each whose `&` is the shares of the whole value
+module _ {M : Type 1} {𝓤 : Ura M} (𝓛 : Logic 𝓤) (R : RattleType) where
+  abbrev pub Lends : Type 1
+  Lends = (x : R.Denot) (b o : ℕ) → Lent 𝓛 (part_at R full_share x b o) (shared_of R x b o)
+
+  pub copied-lends : Copied 𝓛 R → Lends
+  copied-lends c = c.lends full_share
+
+  pub whole-lends : Whole R → Lends
+  whole-lends wh x b o = subst (Lent 𝓛 (part_at R full_share x b o)) (sym (wh x b o)) (Lent-one 𝓛 (λ q. part_at R q x b o) full_share)
+
+  -- and a `&` to it is opened, where the type is Copy
+  pub copied-opens : Copied 𝓛 R → Opens 𝓛 R
+  copied-opens c = c.opens
+
+  pub whole-opens : Plain R → Whole R → Copy 𝓛 R → Opens 𝓛 R
+  whole-opens p wh copied = (whole-copied 𝓛 R wh p.val p.tells copied).opens
+
 module _ {M : Type 1} {𝓤 : Ura M} {𝓛 : Logic 𝓤} {K : Type 0} {Γ : List (Item 𝓤)} {G : Goal 𝓤 𝓛.H} {R : RattleType} where
   pub owns-it : K → (p : Plain R) (x : R.Denot) → IsA p x → Step K 𝓛 (‵ (R.own_val x (p.val x ∷ [])) ∷ Γ) G Γ G
   owns-it t p x is = use0 𝓛 (‵ (R.own_val x (p.val x ∷ []))) (p.makes 𝓛 x _ is)
@@ -99,10 +123,10 @@ module _ {M : Type 1} {𝓤 : Ura M} {𝓛 : Logic 𝓤} {K : Type 0} {Γ : List
         (‵ (cell_at full_share R.mir (p.val x ∷ []) b o) ∷ ‵ (fobor κ q (Body (mem R) b o γ)) ∷ ‵ (fobs γ u) ∷ ‵ (fauth γ v) ∷ Γ) G
     closes-plain t z p x is b o = step (λ s. owns-it t p x is $ move t (1 ∷ 0 ∷ []) $ closes t z R x (p.val x ∷ []) b o $ s)
 
-    pub looks-plain : K → Soaks G → (p : Plain R) → Copy 𝓛 R → {κ : Lft} {q : Share} (x : R.Denot) (b o : ℕ)
-        → ((q' : Share) → IsA p x → Seq K 𝓛 (‵ (cell_at q' R.mir (p.val x ∷ []) b o) ∷ ‵ (R.own_val x (p.val x ∷ [])) ∷ ‵ (fobor κ q (part_at R q' x b o)) ∷ ‵ (fshr_bor κ (λ s. part_at R s x b o)) ∷ Γ) G)
-        → Seq K 𝓛 (‵ (fshr_bor κ (λ s. part_at R s x b o)) ∷ ‵ (flft κ q) ∷ Γ) G
-    looks-plain t z p copied x b o k = looks t z R (Is R) (shows 𝓛 R) (λ y. p.val y ∷ []) p.tells copied x b o (λ q' vs. struct-steps.spelt t R (Is R) (shows 𝓛 R) (λ y. p.val y ∷ []) p.tells q' x vs b o $
+    pub looks-plain : K → Soaks G → (p : Plain R) → Opens 𝓛 R → {κ : Lft} {q : Share} (x : R.Denot) (b o : ℕ)
+        → ((q' : Share) → IsA p x → Seq K 𝓛 (‵ (cell_at q' R.mir (p.val x ∷ []) b o) ∷ ‵ (R.own_val x (p.val x ∷ [])) ∷ Shut 𝓛 κ q (part_at R q' x b o) ∷ ‵ (hidden_shr R κ x b o) ∷ Γ) G)
+        → Seq K 𝓛 (‵ (hidden_shr R κ x b o) ∷ ‵ (flft κ q) ∷ Γ) G
+    looks-plain t z p opened x b o k = looks t z R opened x b o (λ q' vs. struct-steps.spelt t R (Is R) (shows 𝓛 R) (λ y. p.val y ∷ []) p.tells q' x vs b o $
         move t (1 ∷ []) $ peeks t R (Is R) (shows 𝓛 R) x (p.val x ∷ []) (λ is. move t (1 ∷ 0 ∷ []) $ k q' is))
 
     -- ---- in a slice
@@ -119,7 +143,7 @@ module _ {M : Type 1} {𝓤 : Ura M} {𝓛 : Logic 𝓤} {K : Type 0} {Γ : List
     back-plain t p q ys i d is b o within = step (λ s. owns-it t p (get_or ys i d) is $ move t (1 ∷ 0 ∷ []) $ elem_back t R q ys i d (p.val (get_or ys i d) ∷ []) b o within $ s)
 
   -- ---- a call. `said` is what the callee's `post` is: the tokens, the result, and for some last values what says them and the clause
-  module _ {E : Env 𝓤 H} {C : Calls 𝓤 H} {f : Name} {xs : List Operand} {Λ : Loops 𝓤 H} {q : Post 𝓤 H} {d : Place} where
+  module _ {E : Env 𝓤 H} {C : Calls 𝓤 H} {f : Callee} {xs : List Operand} {Λ : Loops 𝓤 H} {q : Post 𝓤 H} {d : Place} where
     pub calls-lent : K → FmC 𝓤 H 𝓛.laws C → {rest : Code} (c : Contract 𝓤) → Triple 𝓤 (C f) c → (y : c.Ghost) → Opds K 𝓛 (raw (c.pre y) ∷ Γ) E xs (c.args y)
         → {R : RattleType} (p : Plain R) {Ws : Type 0} (tokens : Fml) (lasts : Ws → Fml) (φ : R.Denot → Ws → Type 0)
         → ((w : Val) → c.post y w ≡ H.⇛ (ex 𝓤 (λ (r : R.Denot). sep 𝓤 (sep 𝓤 (sem 𝓛 tokens) (sem 𝓛 (R.own_val r (w ∷ [])))) (ex 𝓤 (λ (ws : Ws). sep 𝓤 (sem 𝓛 (lasts ws)) (fact 𝓤 (φ r ws)))))))
