@@ -1,6 +1,6 @@
 use Rattle.std.proofs.Common.{◌≡◌, length, arith, ◌∙◌}
 use Rattle.listed.specs.Steps.{stored_verdict}
-use Rattle.listed.specs.Listed.{no-record}
+use Rattle.listed.specs.Listed.{no_record}
 use Rattle.walks.proofs.Lists.{marks, marks-step, marks-all}
 use Rattle.listed.proofs.note_all.Goals as goal
 
@@ -8,7 +8,7 @@ pub loop-i-preserved : goal.loop-i-preserved
 loop-i-preserved c =
     let within = c.loop-i.auto.cards in (
       omega arith,
-      marks-step (stored_verdict c.args.number c.args.load) c.loop-i.i c.args.cards.now c.loop-i.cards c.note-card.result no-record (omega arith) c.loop-i.invariant.1 c.note-card.ensures,
+      marks-step (stored_verdict c.args.number c.args.load) c.loop-i.i c.args.cards.now c.loop-i.cards c.note-card.result no_record (omega arith) c.loop-i.invariant.1 c.note-card.ensures,
     )
 
 pub returns : goal.returns
