@@ -1,6 +1,6 @@
 /* spi2.h: the calls that a flight computer's C program makes to build and read SPI-2 tokens and to check payloads.
  *
- * For C99 and later, and C++. Link with libflight.a (`rt staticlib flight` writes target/staticlib/libflight.a, for Linux
+ * For C99 and later, and C++. Link with libflight.a (`rt lib`, called in crates/flight, writes crates/flight/out/libflight.a, for Linux
  * on x86-64). The calls keep no state, allocate nothing, never fail in any other way than said here, and may be made from
  * several threads at once.
  * Each is proved to answer as said here, for every argument: crates/flight.

@@ -3,8 +3,9 @@
  *
  * Build and run on x86-64, from the top of the repository:
  *
- *   rt staticlib flight
- *   gcc -O2 -Wall -Iinclude examples/c/write_block.c target/staticlib/libflight.a -o target/write_block
+ *   (cd crates/flight && rt lib)
+ *   mkdir -p target
+ *   gcc -O2 -Wall -Iinclude examples/c/write_block.c crates/flight/out/libflight.a -o target/write_block
  *   target/write_block
  */
 #include <stdint.h>

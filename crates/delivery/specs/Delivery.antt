@@ -5,7 +5,7 @@
 --                   whole messages),
 --   at the pins     `powered_pins`, `selected_pins`, `module_pins`, `clocked`, `released_pins`, `memory_after_pins` (crate pins, AtPins.antt),
 --   the controller  `started`, `asked` with `asked_buffer`, `given`, `verdict_of`,
---   the damage      `Unseen`, `Cut`, `Flipped` (crate link, Damage.antt).
+--   the damage      `unseen`, `cut`, `bits_flipped` (crate link, Damage.antt).
 -- The proofs are `delivery`, `undamaged-delivery`, `odd-base`, and `delivery-at-pins`, `undamaged-at-pins`, `odd-base-at-pins` of
 -- proofs/Theorem.antt.
 use Rattle.std.specs.Prelude.{ℕ, ◌+◌, ◌≤◌, Bool, true, false, List, [], ◌⊎◌, ◌≡◌, length}

@@ -1,5 +1,5 @@
 -- Each public operation's contract leaves one answer, and one content of the shifter that it was lent.
--- Of a function that is proved by hand the contract is an assertion: in every model, where it holds of two outcomes, they are the same.
+-- Of the functions over a reference and their copies it is said of the contract as an assertion: in every model, where it holds of two outcomes, they are the same.
 -- Assumes nothing.
 use mathlib.Core.Path.{◌≡◌, sym, ◌∙◌}
 use seplogic.Ra.Ura.{Ura}

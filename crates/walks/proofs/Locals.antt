@@ -1,6 +1,6 @@
 -- What a walk needs that lends a local: a local that holds a plain value is lent for a lifetime that is made for it, and is back, at its last value, once the lifetime is ended.
 --     lends-mut, ends-mut      by `&mut`: the lifetime's token, the reference and the lender's part for the local's cell; and the cell again, at the last value
---     lends-shr, ends-shr      by `&`: the same, and the value stays. Where the type is lent so (`Plain.antt`'s `Lends`).        lends_shr_by    by the type's law of sharing
+--     lends-shr, ends-shr      by `&`: the same, and the value stays. Where the type is lent so (`Plain.antt`'s `Lends`).        lends-shr-by    by the type's law of sharing
 --     lends-part, ends-part    the first k elements of an array, by `&mut`: what lies behind them stays with the walk; and the array's cell again, at their last values
 -- A local's cell stands at the type itself and memory's at its raw form. A plain type has one machine value, and so one MIR type τ: `refl` says which.
 -- Assumes `Logic`.
@@ -84,10 +84,10 @@ module _ {M : Type 1} {𝓤 : Ura M} {𝓛 : Logic 𝓤} {K : Type 0} {Γ : List
       await t z $ split t $ move t (2 ∷ []) $ k ν)
 
   -- whatever the type's `&` is, by its law of sharing at the lifetime that is made
-  pub lends_shr_by : K → Soaks G → (p : Plain R) {τ : Ty} → R.mir ≡ τ ∷ [] → (ℓ : Lifetime) (x : R.Denot) → ((ν : ℕ) → SharesFrom 𝓛 full_share R x (shared_of R x) (ν ∷ [])) → IsA p x → (l : ℕ)
+  pub lends-shr-by : K → Soaks G → (p : Plain R) {τ : Ty} → R.mir ≡ τ ∷ [] → (ℓ : Lifetime) (x : R.Denot) → ((ν : ℕ) → SharesFrom 𝓛 full_share R x (shared_of R x) (ν ∷ [])) → IsA p x → (l : ℕ)
       → ((ν : ℕ) → Seq K 𝓛 (‵ (flft (ν ∷ []) full_share) ∷ ‵ ((ShrRef ℓ (ν ∷ []) R).own_val (seen x l) (vptr l 0 ∷ [])) ∷ ‵ (flent (ν ∷ []) (part_at R full_share x l 0)) ∷ Γ) G)
       → Seq K 𝓛 (‵ (fat full_share τ l 0 (p.val x)) ∷ Γ) G
-  lends_shr_by t z p one ℓ x law is l k = lies-in t p one x is l $ lft_new t z (λ ν. move t (1 ∷ 0 ∷ []) $
+  lends-shr-by t z p one ℓ x law is l k = lies-in t p one x is l $ lft_new t z (λ ν. move t (1 ∷ 0 ∷ []) $
       use2 𝓛 (later ((‵ ((ShrRef ℓ (ν ∷ []) R).own_val (seen x l) (vptr l 0 ∷ [])) ⊛ ‵ (flent (ν ∷ []) (part_at R full_share x l 0))) ⊛ ‵ (flft (ν ∷ []) full_share)))
       (lends_by_law 𝓛 R ℓ (ν ∷ []) full_share x l 0 (ν ∷ []) (law ν) ((ν ∷ [], full_share) ∷ []) (λ a m. m) (λ a m. m)) $
       await t z $ split t $ split t $ move t (2 ∷ []) $ k ν)
