@@ -10,8 +10,7 @@ use lib.Dec.{eqb}
 use lib.ListN.{length}
 use Rattle.rules.specs.Refusals as refusal
 use Rattle.rules.proofs.Cases.{by-test, by-number}
-use Rattle.judge.proofs.Laws.{never}
-use Rattle.card.specs.Card.{selected, word_refusal}
+use Rattle.card.specs.Card.{selected}
 use Rattle.card.specs.Release.{released, memory_after}
 use Rattle.card.specs.State.{emptied}
 use Rattle.card.specs.declared.Card.{Card}
@@ -22,13 +21,12 @@ use Rattle.card.proofs.Refusals.{released-number}
 use Rattle.shifter.specs.Shifter.{cleared, left_over}
 use Rattle.shifter.specs.declared.LeftOver.{LeftOver}
 use Rattle.shifter.specs.declared.Shifter.{Shifter}
-use Rattle.pins.specs.Pins.{pins_of, shifter_refusal, behind_shifter, selected_pins, clocked, released_pins, memory_after_pins}
+use Rattle.pins.specs.Pins.{pins_of, shifter_refusal, behind_shifter, selected_pins, released_pins, memory_after_pins}
 use Rattle.pins.specs.declared.Pins.{Pins}
 use Rattle.pins.specs.declared.PinsAfter.{PinsAfter}
 use Rattle.delivery.proofs.Kept.{Like, like-same}
-use Rattle.two_ports.specs.Ports.{module_ports, selected_ports, told_ports, took_ports, ports_word_refusal, released_ports, memory_after_ports}
-use Rattle.two_ports.specs.State.{is_selected, live, is_port, seen_from, view, view_from}
-use Rattle.two_ports.specs.declared.PortRecord.{PortRecord}
+use Rattle.two_ports.specs.Ports.{module_ports, selected_ports, ports_word_refusal, released_ports, memory_after_ports}
+use Rattle.two_ports.specs.State.{is_port, seen_from, view, view_from}
 use Rattle.two_ports.specs.declared.Ports.{Ports}
 use Rattle.two_ports.proofs.Cases.{is-live}
 use Rattle.two_ports.proofs.Drift.{Drifts, HarmlessRelease, drifts-none, drifts-then, select-drifts, tell-drifts, take-drifts, module-drifts, release-drifts, release-memory-stays}
@@ -40,13 +38,12 @@ use Rattle.two_pins.specs.Run as run
 use Rattle.two_pins.specs.Run.{RunPortPins}
 use Rattle.two_pins.specs.declared.PortPins.{PortPins}
 use Rattle.two_pins.specs.declared.PortPinsAfter.{PortPinsAfter}
-use Rattle.two_pins.specs.declared.PortClocked.{PortClocked}
 use Rattle.two_pins.proofs.Clock.{pins-ports, pins-twice, clock-has, clock-sees, clock-sends, clock-number, clock-far}
 use Rattle.two_pins.proofs.Run.{Shifters, shifters-from, run-port-pins}
-use Rattle.beside.specs.Beside.{excluded, any_in, Holds, happens, RunBeside}
-use Rattle.beside.specs.Layers.{Did, PinCall, pin_select, pin_clock, pin_release, pin_set_module, accepted_at, does_pin, accepts_pin, ports_at_pins}
+use Rattle.beside.specs.Beside.{excluded, any_in, Holds, happens}
+use Rattle.beside.specs.Layers.{PinCall, pin_select, pin_clock, pin_release, pin_set_module, does_pin, accepts_pin, ports_at_pins}
 use Rattle.beside.proofs.Barred.{happens_but}
-use Rattle.beside.proofs.AtPins.{step_pin, InnerPin, is_clock, LastPin, is_release, timed_pins, pin_machine, pin-first-memory, pin-inner-timed, pin-inner-memory, pin-last-timed, pin-message, pin-whole}
+use Rattle.beside.proofs.AtPins.{step_pin, InnerPin, is_clock, LastPin, is_release, pin_machine, pin-first-memory, pin-inner-timed, pin-inner-memory, pin-last-timed, pin-message, pin-whole}
 use Rattle.beside.proofs.Timed.{timed}
 use Rattle.beside.proofs.Walk.{Steps, Passed, Rested, Ends, Sees}
 use Rattle.beside.proofs.WordsBeside.{OpenPort, ShutPort, port-ranged, shut-selects, shut-quiet, shut-opened, open-told, open-took, open-word-quiet, open-release-quiet, open-releases, open-memory, open-released, harmless-accepted, drifts-like, drifts-timed, drifts-open, drifts-shut}

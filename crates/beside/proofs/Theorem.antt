@@ -3,7 +3,7 @@
 -- Assumes nothing.
 use Prim.Native.Nat.{ℕ}
 use mathlib.Core.Bool.{Bool, false}
-use mathlib.Core.List.{List, [], ◌∷◌}
+use mathlib.Core.List.{List}
 use mathlib.Core.Path.{◌≡◌, sym, ap, ◌∙◌, subst, subst₂}
 use Rattle.judge.proofs.Laws.{never}
 use Rattle.card.specs.declared.Card.{Card}
@@ -16,7 +16,7 @@ use Rattle.delivery.proofs.Settings.{Aside}
 use Rattle.delivery.proofs.SideLaws.{Lawful}
 use Rattle.listed.specs.declared.CardRecord.{CardRecord}
 use Rattle.loader.specs.Loader.{LoadSaid}
-use Rattle.loading.specs.Loading.{Slot, Unit, Before, Passages, LoadPremises, EachMeets, no_card, one_more, LoadMeans, Each, no_slot, one_served, UnitMeans}
+use Rattle.loading.specs.Loading.{Slot, Unit, Before, Passages, EachMeets, no_card, one_more, LoadMeans, Each, no_slot, one_served, UnitMeans}
 use Rattle.loading.proofs.Whole.{loading-holds}
 use Rattle.two_ports.specs.Run as run
 use Rattle.two_ports.specs.State.{view_from}

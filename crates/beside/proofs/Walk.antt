@@ -15,7 +15,7 @@ use Rattle.card.proofs.Laws.{InRange}
 use Rattle.delivery.proofs.Kept.{Like, like-self}
 use Rattle.delivery.proofs.Sides.{Meets}
 use Rattle.two_ports.specs.State.{view_from}
-use Rattle.beside.specs.Beside.{excluded, Holds, accepted_by, Beside, next_of, later_of, Walked, behind, RunBeside}
+use Rattle.beside.specs.Beside.{excluded, Holds, Beside, next_of, later_of, Walked, RunBeside}
 use Rattle.beside.specs.Layers.{Did, Layer}
 use Rattle.beside.proofs.Barred.{happens_but, all_happen_but, walked_but, heard_but, beside_but}
 

@@ -6,18 +6,17 @@ use mathlib.Core.Bool.{Bool, true, false, cond}
 use mathlib.Core.List.{List, [], ◌∷◌, ◌++◌, append_assoc}
 use mathlib.Core.Path.{◌≡◌, refl, sym, ap, ◌∙◌, subst}
 use lib.Dec.{eqb}
-use lib.ListN.{length, take, drop, take-append-drop}
+use lib.ListN.{take, drop, take-append-drop}
 use Rattle.rules.specs.Refusals as refusal
 use Rattle.rules.proofs.Cases.{by-test}
 use Rattle.link.specs.Damage.{Damage, unseen, cut, bits_flipped}
-use Rattle.card.specs.Whole.{Hears}
 use Rattle.loader.specs.Loader.{card_now, all_over}
-use Rattle.delivery.specs.Delivery.{Side, sure_write}
-use Rattle.delivery.specs.Play.{Crossed, crossed, ModuleCall, settings, Going, round, between, Buffers, Damages, Calls, play}
+use Rattle.delivery.specs.Delivery.{Side}
+use Rattle.delivery.specs.Play.{crossed, ModuleCall, settings, Going, round, between, Buffers, Damages, Calls, play}
 use Rattle.loading.specs.Loading.{Slot, Unit, Passages, served, unit_round, serve_all, Before, load_unit}
-use Rattle.beside.specs.Beside.{Beside, heard_beside, beside_on, NoneOf, accepted_of_all}
+use Rattle.beside.specs.Beside.{Beside, beside_on, NoneOf, accepted_of_all}
 use Rattle.beside.specs.Layers.{Layer}
-use Rattle.beside.proofs.Barred.{heard_but, beside_but, in-both, of-both, heard-keeps, nothing-left-out}
+use Rattle.beside.proofs.Barred.{beside_but, in-both, of-both, heard-keeps, nothing-left-out}
 
 module _ (layer : Layer) (barred : List ℕ) (p : ℕ) where
   abbrev B : Type 0

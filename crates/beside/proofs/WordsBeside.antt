@@ -2,7 +2,7 @@
 -- Assumes nothing.
 use Prim.Native.Nat.{ℕ, ◌-◌, ◌≤◌}
 use mathlib.Core.Path.{◌≡◌, refl, sym, ap, ap₂, ◌∙◌}
-use mathlib.Core.Bool.{Bool, true, false, cond, not, ◌&&◌, ◌||◌}
+use mathlib.Core.Bool.{Bool, true, false, cond, ◌||◌}
 use mathlib.Core.List.{List, [], ◌∷◌}
 use borrow.Author.Tests.{eq-eqb, le-leb, eqb-false}
 use lib.Dec.{eqb}
@@ -14,7 +14,7 @@ use Rattle.rules.proofs.Cases.{by-test}
 use Rattle.judge.specs.declared.Bases.{Bases}
 use Rattle.judge.proofs.Laws.{never}
 use Rattle.card.specs.Card.{selected, word_refusal}
-use Rattle.card.specs.Release.{is_accepted, release_refusal, released, memory_after}
+use Rattle.card.specs.Release.{release_refusal, released, memory_after}
 use Rattle.card.specs.Exchange.{fields, told, took}
 use Rattle.card.specs.State as card
 use Rattle.card.specs.State.{emptied}
@@ -28,7 +28,7 @@ use Rattle.card.proofs.Sound.{not-out}
 use Rattle.card.proofs.Stays.{memory-long}
 use Rattle.delivery.proofs.Kept.{Like, like-same}
 use Rattle.two_ports.specs.OnePort.{seen_after, seen_told}
-use Rattle.two_ports.specs.Ports.{ports_select_refusal, ports_release_refusal, release_live, module_ports, select_near, selected_ports, tell_near, told_ports, take_near, took_ports, released_ports, memory_after_ports}
+use Rattle.two_ports.specs.Ports.{ports_select_refusal, ports_release_refusal, release_live, select_near, selected_ports, told_ports, took_ports, released_ports, memory_after_ports}
 use Rattle.two_ports.specs.Run as run
 use Rattle.two_ports.specs.Run.{RunPorts}
 use Rattle.two_ports.specs.State.{is_selected, live, is_port, turned, seen_from, view, view_from, out_of_range}
@@ -40,8 +40,8 @@ use Rattle.two_ports.proofs.Drift.{Drifts, drifts-none, Harmless, HarmlessReleas
 use Rattle.two_ports.proofs.Frame.{seen-bases, own_record, select-seen, tell-seen, take-seen, release-seen}
 use Rattle.two_ports.proofs.Refusals.{select-at-port, release-at-port}
 use Rattle.two_ports.proofs.Ranges.{run-ranged, view-ranged, seen-ranged, ranged-alike}
-use Rattle.beside.specs.Beside.{excluded, is_in, any_in, Holds, happens, RunBeside}
-use Rattle.beside.specs.Layers.{Did, WordCall, select, tell, take_word, release, set_module, accepted_at, does_word, accepts_word, ports_in_words}
+use Rattle.beside.specs.Beside.{excluded, is_in, any_in, Holds, happens}
+use Rattle.beside.specs.Layers.{WordCall, select, tell, take_word, release, set_module, accepted_at, does_word, accepts_word, ports_in_words}
 use Rattle.beside.proofs.Barred.{happens_but}
 use Rattle.beside.proofs.InWords.{step_word, InnerWord, is_tell, is_take, LastWord, is_release, word_machine, word-first-memory, inner-timed, inner-memory, word-message, word-whole, word-last-timed}
 use Rattle.beside.proofs.Timed.{timed}

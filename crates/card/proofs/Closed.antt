@@ -8,7 +8,7 @@ use mathlib.Core.Bool.{Bool, true, false, cond, not, ◌&&◌}
 use mathlib.Core.List.{List, [], ◌∷◌, ◌++◌}
 use borrow.Author.Tests.{le-leb, eqb-true}
 use lib.Dec.{eqb, lit≤}
-use lib.ListN.{length, get_or, take, drop, replicate, length-append, length-take, length-drop, length-replicate}
+use lib.ListN.{length, get_or, take, replicate, length-append, length-take, length-drop, length-replicate}
 use lib.Seq.{take_at}
 use Rattle.rules.specs.Rules.{write}
 use Rattle.bits.proofs.Buffers.{length-written}

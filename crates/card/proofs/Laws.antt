@@ -6,7 +6,7 @@ use mathlib.Core.Path.{◌≡◌, refl, sym, ap, ap₂, ◌∙◌}
 use native.Mathlib.Omega.{arith}
 use borrow.Author.Tests.{eqb-true, leb-true, ltb-false}
 use lib.Dec.{eqb, leb, ltb}
-use lib.ListN.{length, get_or, length-take}
+use lib.ListN.{get_or, length-take}
 use lib.Seq.{get_or-take}
 use Rattle.rules.specs.Refusals as refusal
 use Rattle.rules.specs.Rules.{tick, write}

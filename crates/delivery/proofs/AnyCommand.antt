@@ -1,13 +1,12 @@
 -- Demand 3 for any command in the middle, for every side that hears its messages as a card alone does.
 -- Assumes nothing.
-use Prim.Native.Nat.{ℕ, ◌+◌}
+use Prim.Native.Nat.{ℕ}
 use native.Mathlib.Omega.{arith}
 use mathlib.Core.Path.{◌≡◌, refl, sym, ap, ◌∙◌, subst}
 use mathlib.Core.Bool.{Bool, true, false, cond}
 use mathlib.Core.Logic.{◌⊎◌, inl, inr, ⊎_elim}
 use mathlib.Core.List.{List, [], ◌++◌}
 use lib.Dec.{eqb}
-use lib.ListN.{length}
 use Rattle.bits.specs.Lines.{words}
 use Rattle.link.specs.Damage.{Damage, undamaged}
 use Rattle.rules.specs.Rules.{message_words}
@@ -19,7 +18,6 @@ use Rattle.card.specs.State.{emptied}
 use Rattle.card.specs.declared.Card.{Card}
 use Rattle.card.specs.declared.Message.{Message}
 use Rattle.card.specs.declared.Port.{Port}
-use Rattle.card.proofs.Holding.{Idle}
 use Rattle.controller.specs.Builder.{payload}
 use Rattle.controller.specs.Sure.{readback_command, command_at, passes, confirms, turn_after}
 use Rattle.delivery.specs.AnyCommand.{Fates, Course, leg, legs, sure_command, EndsDone, EndsUnsure, Acted, Still, called, Means, Sends, AnyCommand, NoDamage, AnyUndamaged}
@@ -34,7 +32,7 @@ use Rattle.delivery.proofs.Kept.{kept-trans, kept-either, like-kept}
 use Rattle.delivery.proofs.Readbacks.{read_back, undamaged-passes, undamaged-confirms}
 use Rattle.delivery.proofs.Sending.{can-send, sends-idle, calls-idle}
 use Rattle.delivery.proofs.SideLaws.{Starts, called-aside, later-kept, took-called}
-use Rattle.delivery.proofs.Sides.{Follows, Ready, Leg, leg-meets}
+use Rattle.delivery.proofs.Sides.{Follows, Leg, leg-meets}
 use Rattle.delivery.proofs.Told.{told}
 
 module _ (side : Side) (w : Follows side) where

@@ -11,7 +11,6 @@ use lib.Dec.{eqb, lit≤}
 use lib.ListN.{length, take}
 use lib.Seq.{take_at}
 use Rattle.bits.specs.Bits.{stream}
-use Rattle.bits.specs.Lines.{words}
 use Rattle.bits.proofs.Lines.{length-words}
 use Rattle.rules.specs.Rules.{message_words}
 use Rattle.token.specs.Command.{command_fits}

@@ -3,7 +3,7 @@
 use Prim.Native.Nat.{ℕ, ◌≤◌}
 use native.Mathlib.Omega.{arith}
 use mathlib.Core.Path.{◌≡◌, refl, sym, ap, ◌∙◌}
-use mathlib.Core.Bool.{true, false, true≢false}
+use mathlib.Core.Bool.{false, true≢false}
 use mathlib.Core.Logic.{◌⊎◌, inl, inr, ⊎_elim}
 use mathlib.Core.List.{List, []}
 use borrow.Author.Tests.{eq-eqb, eqb-true}
@@ -19,7 +19,7 @@ use Rattle.card.proofs.Closed.{card_acted}
 use Rattle.controller.specs.Builder.{is_reading, message, block_fits}
 use Rattle.controller.specs.Sure.{done_at, unsure_at, Said, verdict_of}
 use Rattle.delivery.specs.AnyCommand.{Fates, Course, sure_command, EndsDone, EndsUnsure, Accepts, Acted, called, Sends, AnyCommand, NoDamage, AnyUndamaged}
-use Rattle.delivery.specs.Delivery.{Side, EvenBase, Inside, BlockWritten, no_damage, sure_write, Kept, Meaning, Premises, Delivery, Undamaged, NeverDone, OddBase}
+use Rattle.delivery.specs.Delivery.{Side, EvenBase, Inside, BlockWritten, no_damage, sure_write, Kept, Meaning, Premises, Delivery, Undamaged, OddBase}
 use Rattle.delivery.specs.Play.{ModuleCall, Going, Buffers, Damages, Calls}
 use Rattle.delivery.proofs.Acts.{Took}
 use Rattle.delivery.proofs.Effects.{write-acted, write-stored}

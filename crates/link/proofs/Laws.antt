@@ -1,21 +1,16 @@
 -- Laws of words on lines, and of damage.
 -- Assumes nothing.
 use mathlib.Core.Option.{none, some}
-use Prim.Native.Nat.{ℕ, zero, suc, ◌+◌, ◌-◌, ◌*◌, ◌≤◌, ◌<◌}
-use native.Mathlib.Nat.{mod-eq_of_lt, lt_of_lt_of_le}
+use Prim.Native.Nat.{ℕ, zero, suc, ◌+◌, ◌-◌, ◌≤◌, ◌<◌}
 use native.Mathlib.Omega.{arith}
-use mathlib.Core.Path.{◌≡◌, refl, sym, ap, ap₂, ◌∙◌}
+use mathlib.Core.Path.{◌≡◌, refl, sym, ap, ◌∙◌}
 use mathlib.Core.Bool.{Bool, true, false}
-use mathlib.Core.List.{List, [], ◌∷◌, ◌++◌, append_assoc}
-use lib.ListN.{length, get_or, take, drop, replicate, length-append, length-take, length-drop, length-replicate, get_or-replicate, get_or-append, take-append-drop}
-use lib.Seq.{take_at, drop_at, take-append-add, length-take-le, get_or-take, get_or-append-add}
-use lib.Pow.{pow_mono}
-use lib.Dec.{leb, ltb, lit<}
+use mathlib.Core.List.{List, [], ◌∷◌, ◌++◌}
+use lib.ListN.{length, get_or, take, replicate, length-append, length-take, length-replicate, get_or-replicate, get_or-append}
+use lib.Seq.{length-take-le, get_or-take, get_or-append-add}
+use lib.Dec.{leb, ltb}
 use borrow.Author.Tests.{leb-true, leb-false, ltb-true, ltb-false}
-use Rattle.bits.specs.Bits.{bits, number, stream}
 use Rattle.crc.specs.Errors.{Flip}
-use Rattle.bits.proofs.Digits.{length-bits, number-bits, bits-number, number-lt}
-use Rattle.bits.specs.Lines.{words}
 use Rattle.link.specs.Damage.{Flips, flip_at, flipped, filled}
 
 -- ---- one bit turned over

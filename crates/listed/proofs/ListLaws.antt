@@ -5,7 +5,7 @@
 use Prim.Native.Nat.{ℕ, zero, suc, zero-le, suc-le-suc, ◌<◌, ◌≤◌}
 use native.Mathlib.Nat.{not-suc-le-zero, le_of_suc-le-suc, zero-lt-suc}
 use native.Mathlib.Omega.{arith}
-use mathlib.Core.Bool.{true, false, cond, ◌&&◌, ◌||◌, and-false, true≢false}
+use mathlib.Core.Bool.{true, false, cond, ◌&&◌, and-false, true≢false}
 use mathlib.Core.List.{List, [], ◌∷◌, map, map-map}
 use mathlib.Core.Logic.{◌≢◌}
 use mathlib.Core.Path.{◌≡◌, refl, sym, ◌∙◌, ap, subst}
@@ -16,10 +16,9 @@ use lib.Seq.{get_or-set_same, get_or-set_other, map-set_same}
 use Rattle.rules.specs.Refusals as refusal
 use Rattle.rules.proofs.Cases.{by-test, by-number}
 use Rattle.token.proofs.Good.{both}
-use Rattle.loader.specs.Loader.{smallest, largest, is_size, load_goes, load_start_refusal, load_started, load_give_refusal, load_given}
+use Rattle.loader.specs.Loader.{smallest, largest, is_size, load_goes, load_start_refusal, load_give_refusal, load_given}
 use Rattle.loader.specs.declared.Loader.{Loader}
 use Rattle.loader.specs.declared.LoadGiven.{LoadGiven}
-use Rattle.loader.specs.declared.LoadStarted.{LoadStarted}
 use Rattle.loader.proofs.StepLaws.{start-number, start-few, start-held, give-passed}
 use Rattle.listed.specs.Listed.{with_verdict, sizes, no_record, list_started, records_started, list_given, records_given}
 use Rattle.listed.specs.declared.CardRecord.{CardRecord}

@@ -21,7 +21,6 @@ use Rattle.two_ports.specs.declared.PortsAfter.{PortsAfter}
 use Rattle.two_pins.specs.PortPins.{port_pins_of, gives_port_pins, pins_from, behind_shifters, left_at, selected_port_pins, clock_near, bit_near, released_port_pins, memory_after_port_pins}
 use Rattle.two_pins.specs.declared.PortClocked.{PortClocked}
 use Rattle.two_pins.specs.declared.PortPins.{PortPins}
-use Rattle.two_pins.specs.declared.PortPinsAfter.{PortPinsAfter}
 
 module _ (q : PortPins) where
   -- ---- the number behind the shifters

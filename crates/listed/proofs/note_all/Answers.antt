@@ -1,7 +1,7 @@
 use Rattle.std.proofs.Common.{◌≡◌, length, arith, ◌∙◌}
 use Rattle.listed.specs.Steps.{stored_verdict}
 use Rattle.listed.specs.Listed.{no_record}
-use Rattle.walks.proofs.Lists.{marks, marks-step, marks-all}
+use Rattle.walks.proofs.Lists.{marks-step, marks-all}
 use Rattle.listed.proofs.note_all.Goals as goal
 
 pub loop-i-preserved : goal.loop-i-preserved

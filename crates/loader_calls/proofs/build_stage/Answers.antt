@@ -3,7 +3,7 @@ use Prim.Native.Nat.{ℕ, ◌+◌, ◌-◌}
 use native.Mathlib.Omega.{arith}
 use mathlib.Core.List.{[]}
 use mathlib.Core.Path.{◌≡◌, ap, ◌∙◌}
-use lib.ListN.{length, take, drop}
+use lib.ListN.{take, drop}
 use Rattle.controller.specs.Base.{base_block}
 use Rattle.loader.specs.Loader.{block_words, base_at, turn_block}
 use Rattle.loader.proofs.StepLaws.{block-none, block-base, block-part}
