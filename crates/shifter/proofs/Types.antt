@@ -1,4 +1,4 @@
--- The crate's structs as the walks name them, each with its machine value and its laws: a shifter, the answer to a bit, both, a shifter with a refusal's number, and the left-over bits.
+-- The crate's structs as walks over them name them, each with its machine value and its laws: a shifter, the answer to a bit, both, a shifter with a refusal's number, and the left-over bits.
 -- Assumes nothing.
 use denote.Struct.Laws as laws
 use Rattle.walks.proofs.Walk.{ℕ, u16, u8, w16, w8}

@@ -1,5 +1,5 @@
 -- A field that is an array of structs. In its struct it stands at the tuples of its elements, and on its own at the elements themselves: the same machine value, and the same relation, but not by computation.
---     field-val, field-val-is      the field's machine value, as the struct spells it, is the array's
+--     field_val, field-val-is      the field's machine value, as the struct spells it, is the array's
 --     array-of-field, field-of-array      so is the relation, each way
 -- Assumes nothing.
 use Prim.Native.Nat.{ℕ}

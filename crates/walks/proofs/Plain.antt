@@ -1,9 +1,10 @@
 -- Plain types in a walk: numbers, bools, arrays, and the structs and enums of such that a crate declares. What a plain value owns is a fact about it, so a walk need not carry it: it is dropped where it comes and made where it is asked for.
---     Plain R          R's machine value as a function of its denotation, with the laws that a walk uses.        struct_plain, enum_plain, array_plain, uint_plain, bool-plain, unit-plain
+--     Plain R          R's machine value as a function of its denotation, with the laws that a walk uses.        struct_plain, enum_plain, array_plain, uint_plain, bool_plain, unit_plain
 --     IsA p x          x is a value of the type.        is-spelt    so is whatever is owned, at the machine value written out
 --     owns-it          what x owns, made of that fact
 --     opens-plain, closes-plain    a `&mut` to a plain value is opened, with its machine value written out, and closed at another value
---     looks-plain      a `&` to a plain value is looked into, with its machine value written out, where a `&` to it is opened (`Opens.antt`)
+--     looks-plain      a fractured borrow of the shares of a plain value that is Copy is looked into, with its machine value written out
+--     looks-shared     a `&` to a plain value is, where a `&` to it is opened (`Opens.antt`)
 --     copied-opens, whole-opens    so is one to each type that is Copy: by the type's own law (`Copied.antt`), or where its `&` is the shares of the whole value (`Shares.antt`'s `Whole`)
 --     Lends 𝓛 R        a value of the type is lent as `&` with no token.        copied-lends, whole-lends    so is one of each type that is Copy, and of each whose `&` is the shares of the whole value
 --     elem-plain, put-plain        the element at i is taken out of a row of plain values, and another is put in its place.        back-plain      it is put back as it was
@@ -20,21 +21,22 @@ use mir.Syntax.{Width, Callee, Place, Opd as Operand, Body as Code, seq, call}
 use mir.Val.{Val, vunit, vbool, vint}
 use base.Logic.{SProp, ent, sep, ex, emp, id⊢}
 use base.Stored.{Gv}
-use base.Fml.{Lft, GName, Share, Fml, ftrue, flft, fobs, fauth, fbor, fobor}
+use base.Fml.{Lft, GName, Share, Fml, ftrue, flft, fobs, fauth, fbor, fobor, fshr_bor}
 use prog.Wp.{Env, Calls, Loops}
 use types.Logic.{Logic, sem}
 use sound.WpLaws.{FmC}
 use contract.Monad.{fact}
-use types.Kit.{Goal, Soaks, Item, ‵, raw, ◌⊛◌, some, later, Post, Seq, Step, step, ◌$◌, runs, lands, move, drop, use0, use1, split, pick, await}
+use types.Kit.{Goal, Soaks, Item, ‵, raw, ◌⊛◌, some, later, Post, Seq, Step, step, ◌$◌, runs, lands, move, drop, use0, use1, split, pick, await, fpick, fsplit}
 use types.Run.{Opds}
 use types.SemTy.{Body}
 use denote.RattleType.{RattleType}
 use denote.Laws.{Is, Tells, Makes, Lawful, Copy, shows}
-use denote.Memory.{cell_at, hidden_shr, mem, part_at, shared_of, shares}
-use denote.Opens.{Opens, Shut}
+use denote.Memory.{cell_at, hidden_shr, mem, part_at, part_of, shared_of, shares}
+use denote.Opens.{Opens, Shut, Cuts-Halves}
+use types.Tokens.{shr_bor_dup, shr_bor-open}
 use denote.Lends.{Lent, Lent-one}
 use denote.Shares.{Whole}
-use denote.Copied.{Copied, whole-copied}
+use denote.Copied.{Copied, told_Cuts, whole-copied}
 use denote.Plain.{UInt, Boolean, Nothing, uint_Tells, uint_Makes, uint_Lawful, bool_Tells, bool_Makes, bool_Lawful, Nothing-Tells, Nothing-Makes, Nothing-Lawful}
 use denote.Array.{Array, array_vals, Array-Tells, Array-Makes, Array-Lawful}
 use denote.Index.{place, others, row, elem_out, elem_back, elem_put}
@@ -123,10 +125,18 @@ module _ {M : Type 1} {𝓤 : Ura M} {𝓛 : Logic 𝓤} {K : Type 0} {Γ : List
         (‵ (cell_at full_share R.mir (p.val x ∷ []) b o) ∷ ‵ (fobor κ q (Body (mem R) b o γ)) ∷ ‵ (fobs γ u) ∷ ‵ (fauth γ v) ∷ Γ) G
     closes-plain t z p x is b o = step (λ s. owns-it t p x is $ move t (1 ∷ 0 ∷ []) $ closes t z R x (p.val x ∷ []) b o $ s)
 
-    pub looks-plain : K → Soaks G → (p : Plain R) → Opens 𝓛 R → {κ : Lft} {q : Share} (x : R.Denot) (b o : ℕ)
+    pub looks-plain : K → Soaks G → (p : Plain R) → Copy 𝓛 R → {κ : Lft} {q : Share} (x : R.Denot) (b o : ℕ)
+        → ((q' : Share) → IsA p x → Seq K 𝓛 (‵ (cell_at q' R.mir (p.val x ∷ []) b o) ∷ ‵ (R.own_val x (p.val x ∷ [])) ∷ ‵ (fobor κ q (part_at R q' x b o)) ∷ ‵ (fshr_bor κ (λ s. part_at R s x b o)) ∷ Γ) G)
+        → Seq K 𝓛 (‵ (fshr_bor κ (λ s. part_at R s x b o)) ∷ ‵ (flft κ q) ∷ Γ) G
+    unfolding part_of
+    looks-plain t z p copied x b o k = shr_bor_dup t $ move t (0 ∷ 2 ∷ []) $
+        shr_bor-open t z (Cuts-Halves 𝓛 (λ s. part_at R s x b o) (told_Cuts 𝓛 R (λ y. p.val y ∷ []) p.tells copied x b o)) (λ q'. move t (1 ∷ []) $ fpick t (λ vs. fsplit t $
+        struct-steps.spelt t R (Is R) (shows 𝓛 R) (λ y. p.val y ∷ []) p.tells q' x vs b o $ move t (1 ∷ []) $ peeks t R (Is R) (shows 𝓛 R) x (p.val x ∷ []) (λ is. move t (1 ∷ 0 ∷ []) $ k q' is)))
+
+    pub looks-shared : K → Soaks G → (p : Plain R) → Opens 𝓛 R → {κ : Lft} {q : Share} (x : R.Denot) (b o : ℕ)
         → ((q' : Share) → IsA p x → Seq K 𝓛 (‵ (cell_at q' R.mir (p.val x ∷ []) b o) ∷ ‵ (R.own_val x (p.val x ∷ [])) ∷ Shut 𝓛 κ q (part_at R q' x b o) ∷ ‵ (hidden_shr R κ x b o) ∷ Γ) G)
         → Seq K 𝓛 (‵ (hidden_shr R κ x b o) ∷ ‵ (flft κ q) ∷ Γ) G
-    looks-plain t z p opened x b o k = looks t z R opened x b o (λ q' vs. struct-steps.spelt t R (Is R) (shows 𝓛 R) (λ y. p.val y ∷ []) p.tells q' x vs b o $
+    looks-shared t z p opened x b o k = looks t z R opened x b o (λ q' vs. struct-steps.spelt t R (Is R) (shows 𝓛 R) (λ y. p.val y ∷ []) p.tells q' x vs b o $
         move t (1 ∷ []) $ peeks t R (Is R) (shows 𝓛 R) x (p.val x ∷ []) (λ is. move t (1 ∷ 0 ∷ []) $ k q' is))
 
     -- ---- in a slice
