@@ -10,8 +10,8 @@ use Rattle.crc.proofs.Fours.{Leaves, leaves-none, leaves-more}
 use Rattle.crc.proofs.Words.{crc16-none}
 use Rattle.crc.proofs.check_fours.Goals as goal
 
-pub returns-then-fours-eq0 : goal.returns-then-fours-eq0
-returns-then-fours-eq0 g c =
+pub returns-then-count-lt4 : goal.returns-then-count-lt4
+returns-then-count-lt4 g c =
     let words = g.P.Payload.words c.args.payload.now in
     let none : length words / 4 * 4 ≡ 0 = omega arith in
     rw none (sym (crc16-none 0 (omega arith)))
