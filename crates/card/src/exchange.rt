@@ -1,5 +1,5 @@
 // Words told and taken: the word that the card will send, told before the controller's word starts, and the word received.
-ghost use Rattle.std.specs.Prelude.{◌≡◌, ◌+◌, ◌≤◌, length, IfOk};
+ghost use Rattle.std.specs.Prelude.{◌≡◌, ◌+◌, ◌≤◌, length, IfOk, OnErr};
 ghost use Rattle.judge.specs.Judge.{word_place};
 ghost use Rattle.rules.specs.Refusal.{refusal_of};
 ghost use Rattle.rules.specs.Rules.{read};
@@ -153,6 +153,7 @@ impl Card {
         ensures answer { refusal_of result ≡ (told self.old memory.now).refusal }
         ensures word { IfOk result (λ word. word ≡ (told self.old memory.now).word) }
         ensures after { self.new ≡ (told self.old memory.now).card }
+        ensures refused { OnErr result (self.new ≡ self.old) }
     {
         self.word_refusal(memory.len())?;
         let word = self.next_word(memory);
@@ -166,6 +167,7 @@ impl Card {
     pub fn take(&mut self, memory: &[u16], word: u16) -> Result<(), Refusal>
         ensures answer { refusal_of result ≡ (took self.old memory.now word).refusal }
         ensures after { self.new ≡ (took self.old memory.now word).card }
+        ensures refused { OnErr result (self.new ≡ self.old) }
     {
         self.word_refusal(memory.len())?;
         let note = self.port.message.note;

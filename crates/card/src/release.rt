@@ -1,5 +1,5 @@
 // What a released message does: it is judged, and where it is accepted its command acts.
-ghost use Rattle.std.specs.Prelude.{◌≡◌, ◌+◌, ◌*◌, ◌^◌, ◌≤◌, length, OnOk, if◌then◌else◌, nat_eq};
+ghost use Rattle.std.specs.Prelude.{◌≡◌, ◌+◌, ◌*◌, ◌^◌, ◌≤◌, length, OnOk, OnErr, if◌then◌else◌, nat_eq};
 ghost use Rattle.judge.specs.Judge.{word_place};
 ghost use Rattle.rules.specs.Refusal.{refusal_of};
 ghost use Rattle.rules.specs.Rules.{tick, write};
@@ -209,6 +209,7 @@ impl Card {
         ensures answer { refusal_of result ≡ (released self.old (length memory.old) left).refusal }
         ensures after { self.new ≡ (released self.old (length memory.old) left).card }
         ensures memory_after { memory.new ≡ memory_after self.old memory.old left }
+        ensures refused { OnErr result ((self.new ≡ self.old) × (memory.new ≡ memory.old)) }
     {
         self.release_refusal(memory.len(), left)?;
         self.end(memory, left);
