@@ -14,7 +14,6 @@ use crate::reader::{payload_of, read_answer};
 use rules::Name;
 use rules::refusal::Refusal;
 use token::command::{Command, CommandToken};
-use token::response::any_set;
 
 /// The three messages of a round, in their order: READBACK, the command, READBACK.
 #[derive(Clone, Copy, Debug, PartialEq, Eq)]
@@ -132,7 +131,7 @@ fn after_last(middle: Command, words: &[u16]) -> Turn
     let Ok(fields) = read_answer(words, readback().length as u32) else {
         return Turn::Unsure;
     };
-    let sure = !any_set(fields.status) & is_token(middle, shown_token(words));
+    let sure = !fields.status.any_set() & is_token(middle, shown_token(words));
     if sure { Turn::Done } else { Turn::Unsure }
 }
 
