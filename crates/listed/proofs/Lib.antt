@@ -1,3 +1,4 @@
 pub mod ListLaws
 pub mod Refusals
 pub mod Sizes
+pub mod Unique
