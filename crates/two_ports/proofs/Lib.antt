@@ -6,6 +6,9 @@ pub mod Drift
 pub mod Frame
 pub mod Held
 pub mod OnePort
+pub mod PowerLaws
 pub mod Ranges
 pub mod Refusals
+pub mod ReleaseLaws
 pub mod Sound
+pub mod ViewLaws
