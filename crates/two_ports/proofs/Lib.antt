@@ -6,9 +6,7 @@ pub mod Drift
 pub mod Frame
 pub mod Held
 pub mod OnePort
-pub mod PowerLaws
 pub mod Ranges
 pub mod Refusals
-pub mod ReleaseLaws
 pub mod Sound
-pub mod ViewLaws
+pub mod Unique

@@ -1,13 +1,13 @@
 //! The calls of the card with two ports but release: power-up, module state, select, tell and take. Each but the first two names its port.
-ghost use Rattle.std.specs.Prelude.{◌≡◌, IfOk, length};
+ghost use Rattle.std.specs.Prelude.{◌≡◌, IfOk, OnOk, OnErr, length};
 ghost use Rattle.rules.specs.Refusal.{refusal_of};
 ghost use Rattle.rules.specs.Refusals.{none};
 ghost use Rattle.card.specs.Card.{word_refusal as card_word_refusal};
-ghost use Rattle.two_ports.specs.State.{no_bases, seen_from, view, with_emptied};
+ghost use Rattle.two_ports.specs.State.{view, view_from};
 ghost use Rattle.two_ports.specs.Ports.{powered_ports, ports_module_refusal, module_ports, ports_select_refusal, select_near, selected_ports, ports_word_refusal, tell_near, word_near, told_ports, take_near, took_ports};
 
 use crate::{PortRecord, Ports};
-use card::Card;
+use card::{Card, Port};
 use rules::refusal::Refusal;
 
 impl PortRecord {
@@ -16,7 +16,7 @@ impl PortRecord {
         active: true,
         dropped: false,
         held: PortRecord::NO_BASES,
-        port: Card::OFF.port,
+        port: Port::FRESH,
     };
 }
 
@@ -85,6 +85,7 @@ impl Ports {
     pub fn set_module(&mut self, stf: bool, state: u8) -> Result<(), Refusal>
         ensures answer { refusal_of result ≡ (module_ports self.old stf state).refusal }
         ensures after { self.new ≡ (module_ports self.old stf state).ports }
+        ensures refused { OnErr result (self.new ≡ self.old) }
     {
         self.module_refusal(state)?;
         self.stf = stf;
@@ -110,7 +111,11 @@ impl Ports {
     {
         let active = self.near.active;
         self.near.dropped = !active;
-        self.near.held = if active { self.bases } else { PortRecord::NO_BASES };
+        self.near.held = if active {
+            self.bases
+        } else {
+            PortRecord::NO_BASES
+        };
         self.near.empty(true);
     }
 
@@ -119,6 +124,7 @@ impl Ports {
     pub fn select(&mut self, port: u8) -> Result<(), Refusal>
         ensures answer { refusal_of result ≡ (selected_ports self.old port).refusal }
         ensures after { self.new ≡ (selected_ports self.old port).ports }
+        ensures refused { OnErr result (self.new ≡ self.old) }
     {
         self.select_refusal(port)?;
         self.turn(port);
@@ -132,14 +138,15 @@ impl Ports {
     /// The refusal of tell and take, for lent memory of `size` words: State, Size, Closed or Argument.
     #[tactic(auto, unfolding(crate::specs::Ports::ports_word_refusal))]
     pub fn word_refusal(&self, port: u8, size: usize) -> Result<(), Refusal>
-        ensures { refusal_of result ≡ ports_word_refusal self.now port size }
+        ensures answer { refusal_of result ≡ ports_word_refusal self.now port size }
+        ensures seen { OnOk result (card_word_refusal (view_from port self.now) size ≡ none) }
     {
         let seen = self.view_from(port).word_refusal(size);
         self.refusal_at(port, size == self.size, seen)
     }
 
     // A live message's word is the one of the card that the port sees; a dead message's is 0, and leaves no note.
-    #[tactic(auto, unfolding(crate::specs::Ports::tell_near, crate::specs::Ports::word_near))]
+    #[tactic(auto, unfolding(crate::specs::Ports::tell_near, crate::specs::Ports::word_near, card::specs::Exchange::told))]
     fn tell_near(&mut self, memory: &[u16]) -> Result<u16, Refusal>
         requires { card_word_refusal (view self.old) (length memory.now) ≡ none }
         ensures answer { refusal_of result ≡ none }
@@ -162,6 +169,7 @@ impl Ports {
         ensures answer { refusal_of result ≡ (told_ports self.old port memory.now).refusal }
         ensures word { IfOk result (λ word. word ≡ (told_ports self.old port memory.now).word) }
         ensures after { self.new ≡ (told_ports self.old port memory.now).ports }
+        ensures refused { OnErr result (self.new ≡ self.old) }
     {
         self.word_refusal(port, memory.len())?;
         self.turn(port);
@@ -171,7 +179,7 @@ impl Ports {
     }
 
     // A dead message counts no word.
-    #[tactic(auto, unfolding(crate::specs::Ports::take_near))]
+    #[tactic(auto, unfolding(crate::specs::Ports::take_near, card::specs::Exchange::took))]
     fn take_near(&mut self, memory: &[u16], word: u16) -> Result<(), Refusal>
         requires { card_word_refusal (view self.old) (length memory.now) ≡ none }
         ensures answer { refusal_of result ≡ none }
@@ -191,6 +199,7 @@ impl Ports {
     pub fn take(&mut self, port: u8, memory: &[u16], word: u16) -> Result<(), Refusal>
         ensures answer { refusal_of result ≡ (took_ports self.old port memory.now word).refusal }
         ensures after { self.new ≡ (took_ports self.old port memory.now word).ports }
+        ensures refused { OnErr result (self.new ≡ self.old) }
     {
         self.word_refusal(port, memory.len())?;
         self.turn(port);

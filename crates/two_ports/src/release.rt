@@ -1,11 +1,11 @@
 //! Release on a card with two ports: a live message ends as that of the card that its port sees, and what that card does not have moves beside it,
 //! the common bases and the other port; a dead message only ends.
-ghost use Rattle.std.specs.Prelude.{◌≡◌, length};
+ghost use Rattle.std.specs.Prelude.{◌≡◌, OnOk, OnErr, length};
 ghost use Rattle.rules.specs.Refusal.{refusal_of};
 ghost use Rattle.rules.specs.Refusals.{none};
 ghost use Rattle.card.specs.Exchange.{fields};
 ghost use Rattle.card.specs.Release.{bases_after, first32, release_refusal as card_release_refusal, memory_after};
-ghost use Rattle.two_ports.specs.State.{view};
+ghost use Rattle.two_ports.specs.State.{view, view_from};
 ghost use Rattle.two_ports.specs.Ports.{acted_beside, ports_release_refusal, switched_on, switched_off, switched, release_live, release_dead, release_near, released_ports, memory_near, memory_after_ports};
 
 use crate::{PortRecord, Ports};
@@ -58,7 +58,7 @@ impl Ports {
     }
 
     // A live message ends as that of the card that the port sees; what that card does not have, the common bases and the other port, moves beside it.
-    #[tactic(auto, unfolding(crate::specs::Ports::release_live, crate::specs::Ports::bases_moved, crate::specs::Ports::far_moved, card::specs::Release::release_accepts))]
+    #[tactic(auto, unfolding(crate::specs::Ports::release_live, crate::specs::Ports::bases_moved, crate::specs::Ports::far_moved, card::specs::Release::release_accepts, card::specs::Release::released))]
     fn release_live(&mut self, memory: &mut [u16], left: u8) -> Result<(), Refusal>
         requires { card_release_refusal (view self.old) (length memory.old) left ≡ none }
         ensures answer { refusal_of result ≡ none }
@@ -103,7 +103,8 @@ impl Ports {
 
     #[tactic(auto, unfolding(crate::specs::Ports::ports_release_refusal))]
     fn release_refusal(&self, port: u8, size: usize, left: u8) -> Result<(), Refusal>
-        ensures { refusal_of result ≡ ports_release_refusal self.now port size left }
+        ensures answer { refusal_of result ≡ ports_release_refusal self.now port size left }
+        ensures seen { OnOk result (card_release_refusal (view_from port self.now) size left ≡ none) }
     {
         let seen = self.view_from(port).release_refusal(size, left);
         self.refusal_at(port, size == self.size, seen)
@@ -116,6 +117,7 @@ impl Ports {
         ensures answer { refusal_of result ≡ (released_ports self.old port (length memory.old) left).refusal }
         ensures after { self.new ≡ (released_ports self.old port (length memory.old) left).ports }
         ensures memory_after { memory.new ≡ memory_after_ports self.old port memory.old left }
+        ensures refused { OnErr result ((self.new ≡ self.old) × (memory.new ≡ memory.old)) }
     {
         self.release_refusal(port, memory.len(), left)?;
         self.turn(port);

@@ -1,8 +1,8 @@
 //! What every call of the card with two ports shares: what a port sees, the state with another near port, and the order of the refusals. A call
 //! names its port, turns the two so that the port is the near one, and turns them back behind it.
-ghost use Rattle.std.specs.Prelude.{◌≡◌};
+ghost use Rattle.std.specs.Prelude.{◌≡◌, OnOk};
+ghost use Rattle.rules.specs.Refusals.{none};
 ghost use Rattle.rules.specs.Refusal.{refusal_of};
-ghost use Rattle.card.specs.State.{out_of_range as card_out_of_range};
 ghost use Rattle.two_ports.specs.State.{live, out_of_range, seen_from, view, view_from, with_emptied, with_near, with_near_port, with_port};
 ghost use Rattle.two_ports.specs.Ports.{refusal_at};
 
@@ -94,28 +94,30 @@ impl Ports {
 
     // ---- refusals
 
-    // The ranges are the card's own: it refuses memory of its own size with State only where it is out of them.
-    #[tactic(auto, unfolding(crate::specs::State::view), using(crate::proofs::ViewLaws::state_alone))]
-    fn sees_out_of_range(&self) -> bool
-        ensures { result ≡ card_out_of_range (view self.now) }
-    {
-        self.view().word_refusal(self.size) == Err(Refusal::State)
-    }
-
-    /// The card that either port sees is, or both ports are inactive.
+    /// The size (1 to 32,768), a word count (at most 67) or the module state (at most 15) lies outside its range, or both ports are inactive.
+    #[tactic(auto, unfolding(crate::specs::State::out_of_range, card::specs::State::sized))]
     pub fn is_out_of_range(&self) -> bool
         ensures { result ≡ out_of_range self.now }
     {
+        let sized = (1 <= self.size) & (self.size <= 32768);
         let active = self.near.active | self.far.active;
-        let mut turned = *self;
-        turned.turn(1);
-        self.sees_out_of_range() | turned.sees_out_of_range() | !active
+        !sized
+            | (67 < self.near.port.message.count)
+            | (67 < self.far.port.message.count)
+            | (15 < self.module_state)
+            | !active
     }
 
     /// What a call on a port refuses: State comes first; then, for a port that there is, what the card that it sees answers.
     #[tactic(auto, unfolding(crate::specs::Ports::refusal_at, crate::specs::State::is_port))]
-    pub fn refusal_at(&self, port: u8, size_fits: bool, answer: Result<(), Refusal>) -> Result<(), Refusal>
-        ensures { refusal_of result ≡ refusal_at self.now port size_fits (refusal_of answer) }
+    pub fn refusal_at(
+        &self,
+        port: u8,
+        size_fits: bool,
+        answer: Result<(), Refusal>,
+    ) -> Result<(), Refusal>
+        ensures answer { refusal_of result ≡ refusal_at self.now port size_fits (refusal_of answer) }
+        ensures seen { OnOk result (refusal_of answer ≡ none) }
     {
         if self.is_out_of_range() {
             return Err(Refusal::State);
