@@ -14,9 +14,9 @@ use Rattle.token.specs.Command.{good_command, command_read, command_read_gives}
 use Rattle.token.specs.Marks.{any_wrong}
 use Rattle.token.specs.Response.{response_read, response_read_gives}
 use Rattle.token.specs.declared.command.Command.{Command}
-use Rattle.token.specs.declared.command.CommandRead.{CommandRead}
+use Rattle.std.specs.Prelude.{Result}
 use Rattle.token.specs.declared.response.Response.{Response}
-use Rattle.token.specs.declared.response.ResponseRead.{ResponseRead}
+use Rattle.token.specs.declared.marks.Wrong.{Wrong}
 use Rattle.token.proofs.Wrong.{response-names}
 use Rattle.controller.specs.Reader.{Answer, reading_gives, read_refusal, token_good, token_wrong, fields_read, answer_read}
 use Rattle.controller.specs.declared.Reading.{Reading}
@@ -31,7 +31,7 @@ read-passed len count h =
     (leb-true len 63 short, eqb-true count (message_words len) same)
 
 -- what reading the first two words as a response token tells
-pub token-read : (words : List ℕ) (r q : ResponseRead) → response_read_gives r ≡ response_read (get_or words 0 0) (get_or words 1 0) → r ≡ q
+pub token-read : (words : List ℕ) (r q : Result Response Wrong) → response_read_gives r ≡ response_read (get_or words 0 0) (get_or words 1 0) → r ≡ q
     → (token_good words ≡ (response_read_gives q).good) × (token_wrong words ≡ (response_read_gives q).wrong) × (fields_read words ≡ (response_read_gives q).fields)
 unfolding token_good token_wrong fields_read
 token-read words r q read is =
@@ -39,7 +39,7 @@ token-read words r q read is =
     (sym (ap (λ (a : Read Response). a.good) same), sym (ap (λ (a : Read Response). a.wrong) same), sym (ap (λ (a : Read Response). a.fields) same))
 
 -- what reading two words as a command token tells
-pub command-read : (first second : ℕ) (r q : CommandRead) → command_read_gives r ≡ command_read first second → r ≡ q
+pub command-read : (first second : ℕ) (r q : Result Command Wrong) → command_read_gives r ≡ command_read first second → r ≡ q
     → good_command first second ≡ (command_read_gives q).good
 unfolding command_read
 command-read first second r q read is = sym (ap (λ (a : Read Command). a.good) (ap command_read_gives (sym is) ∙ read))

@@ -19,8 +19,10 @@ use Rattle.token.proofs.Good.{both}
 use Rattle.token.specs.Answers.{Built}
 use Rattle.token.specs.Command.{command_token, command_fits, command_built, command_built_gives, command_fields}
 use Rattle.token.specs.declared.command.Command.{Command}
-use Rattle.token.specs.declared.command.CommandBuilt.{CommandBuilt}
-use Rattle.token.specs.declared.command.CommandBuilt.TheVariants as built
+use Rattle.std.specs.Prelude.{Result, Ok, Err}
+use Rattle.rules.specs.declared.refusal.Refusal.{Refusal}
+use Rattle.rules.specs.declared.refusal.Refusal.TheVariants.{Argument}
+use Rattle.rules.proofs.OneAnswer.{not-none}
 use Rattle.token.specs.declared.command.CommandToken.{CommandToken}
 use Rattle.controller.specs.Builder.{is_reading, with_check_word, payload, block_fits, build_refusal}
 use Rattle.bits.specs.Buffers.{over}
@@ -132,30 +134,30 @@ build-passed f count room h =
     ((both (command_fits f) (block_fits f count) fits).1, leb-true (message_words f.length) room long)
 
 built-by : (fits : Bool) (t made : CommandToken)
-    → command_built_gives (built.Token t) ≡ cond fits (command_built_gives (built.Token made)) (command_built_gives built.Argument)
+    → command_built_gives (Ok t) ≡ cond fits (command_built_gives (Ok made)) (command_built_gives (Err Argument))
     → (fits ≡ true) × (t ≡ made)
 built-by true t made h = (refl, ap (λ (b : Built CommandToken). b.token) h)
 built-by false t made h = absurd (omega (arith, ap (λ (b : Built CommandToken). b.refusal) h))
 
 -- a token that was built is that of its fields, which fit
-pub token-built : (f : Command) (r : CommandBuilt) (t : CommandToken)
-    → command_built_gives r ≡ command_built f.code f.length f.sub_address → r ≡ built.Token t
+pub token-built : (f : Command) (r : Result CommandToken Refusal) (t : CommandToken)
+    → command_built_gives r ≡ command_built f.code f.length f.sub_address → r ≡ Ok t
     → (command_fits f ≡ true) × (t ≡ command_token f)
 unfolding command_built
 token-built f r t made is = built-by (command_fits f) t (command_token f) (ap command_built_gives (sym is) ∙ made)
 
-unbuilt-by : (fits : Bool) (made : CommandToken)
-    → command_built_gives built.Argument ≡ cond fits (command_built_gives (built.Token made)) (command_built_gives built.Argument)
+unbuilt-by : (fits : Bool) (made : CommandToken) (e : Refusal)
+    → command_built_gives (Err e) ≡ cond fits (command_built_gives (Ok made)) (command_built_gives (Err Argument))
     → fits ≡ false
-unbuilt-by true made h = absurd (omega (arith, ap (λ (b : Built CommandToken). b.refusal) h))
-unbuilt-by false made h = refl
+unbuilt-by true made e h = absurd (not-none e (sym (ap (λ (b : Built CommandToken). b.refusal) h)))
+unbuilt-by false made e h = refl
 
 -- where none was built, the fields do not fit
-pub token-not-built : (f : Command) (r : CommandBuilt)
-    → command_built_gives r ≡ command_built f.code f.length f.sub_address → r ≡ built.Argument
+pub token-not-built : (f : Command) (r : Result CommandToken Refusal) (e : Refusal)
+    → command_built_gives r ≡ command_built f.code f.length f.sub_address → r ≡ Err e
     → command_fits f ≡ false
 unfolding command_built
-token-not-built f r made is = unbuilt-by (command_fits f) (command_token f) (ap command_built_gives (sym is) ∙ made)
+token-not-built f r e made is = unbuilt-by (command_fits f) (command_token f) e (ap command_built_gives (sym is) ∙ made)
 
 -- it has the fields that it was built from
 pub built-fields : (f : Command) (t : CommandToken) → command_fits f ≡ true → t ≡ command_token f → command_fields t.first t.second ≡ f
