@@ -29,7 +29,6 @@ unsure-not-all [] = refl
 unsure-not-all (verdict.Done ∷ before) = unsure-not-all before
 unsure-not-all (verdict.Unsure ∷ before) = refl
 unsure-not-all (verdict.NotYet ∷ before) = refl
-unsure-not-all (verdict.State ∷ before) = refl
 
 -- some were Done so far: then one is Unsure, or one more is Done
 module _ {verdicts : List Verdict} (n m : ℕ) (so_far : verdicts ≡ replicate n verdict.Done) where
