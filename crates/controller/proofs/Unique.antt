@@ -3,7 +3,7 @@
 -- κs are the call's lifetimes, a its arguments, r and s two answers, e and f the parameters at exit.
 -- Assumes nothing.
 use Prim.Native.Nat.{ℕ, ◌<◌}
-use mathlib.Core.Bool.{true, false, true≢false, cond}
+use mathlib.Core.Bool.{true≢false, cond}
 use mathlib.Core.Path.{◌≡◌, refl, sym, ap, ◌∙◌}
 use Rattle.std.specs.Prelude.{Result, Ok, Err, IfOk, get_or, [], ◌∷◌}
 use native.Mathlib.Omega.{arith}
@@ -19,7 +19,6 @@ use Rattle.controller.specs.declared.reader.Unread.TheVariants.{Payload, Token, 
 use Rattle.controller.specs.declared.sure.SureWrite.{SureWrite}
 use Rattle.controller.specs.declared.sure.Verdict.{Verdict}
 use Rattle.controller.specs.declared.sure.Verdict.TheVariants as verdict-as
-use Rattle.controller.specs.declared.turn.Message.{Message}
 use Rattle.controller.specs.declared.turn.Message.TheVariants.{First, Command, Last}
 use Rattle.controller.specs.declared.turn.Turn.{Turn}
 use Rattle.controller.specs.declared.turn.Turn.TheVariants.{Ask, Give, Done, Unsure}

@@ -16,7 +16,7 @@ use Rattle.rules.proofs.Cases.{by-test}
 use Rattle.token.specs.declared.command.Command.{Command}
 use Rattle.token.proofs.CommandTrip.{limits}
 use Rattle.controller.specs.Builder.{build_refusal, message_built, buffer_after}
-use Rattle.controller.specs.Sure.{command_at, is_ask, is_give, turn_after}
+use Rattle.controller.specs.Sure.{command_at, is_ask, turn_after}
 use Rattle.controller.specs.Answers.{MessageBuilt}
 use Rattle.retry.specs.Rounds.{may_start, ended_rounds, out_of_rounds, at_turn, rounds_ask_refusal, rounds_asked, rounds_asked_buffer, rounds_give_refusal, rounds_given, settled, laid_out}
 use Rattle.rules.specs.Refusal.{number_of}

@@ -10,7 +10,6 @@ use Rattle.controller.specs.Sure.{command_at}
 use Rattle.controller.specs.Turns.{number_of_turn}
 use Rattle.controller.specs.declared.turn.Turn.TheVariants.{Ask, Give}
 use Rattle.controller.proofs.TurnLaws.{asks-not}
-use Rattle.retry.specs.Answers.{RoundsAsked}
 use Rattle.retry.specs.Rounds.{at_turn, rounds_ask_refusal, rounds_asked, rounds_asked_buffer}
 use Rattle.retry.proofs.RoundCalls.{ask-refused, ask-taken, ask-buffer}
 use Rattle.retry.proofs.Rounds.ask.Goals as goal

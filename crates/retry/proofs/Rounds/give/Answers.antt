@@ -7,7 +7,6 @@ use Rattle.controller.specs.Sure.{turn_after}
 use Rattle.controller.specs.Turns.{number_of_turn}
 use Rattle.controller.specs.declared.turn.Turn.TheVariants.{Give}
 use Rattle.controller.proofs.TurnLaws.{gives-not}
-use Rattle.retry.specs.Answers.{RoundsGiven}
 use Rattle.retry.specs.Rounds.{settled, rounds_give_refusal, rounds_given}
 use Rattle.retry.proofs.RoundCalls.{at-give, give-refused, give-taken}
 use Rattle.retry.proofs.Rounds.give.Goals as goal
