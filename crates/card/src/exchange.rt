@@ -1,9 +1,10 @@
 // Words told and taken: the word that the card will send, told before the controller's word starts, and the word received.
-ghost use Rattle.std.specs.Prelude.{◌≡◌, ◌+◌, ◌≤◌, length, IfOk};
+ghost use Rattle.std.specs.Prelude.{◌≡◌, ◌+◌, ◌≤◌, length, IfOk, OnErr};
 ghost use Rattle.judge.specs.Judge.{word_place};
 ghost use Rattle.rules.specs.Refusal.{refusal_of};
 ghost use Rattle.rules.specs.Rules.{read};
 ghost use Rattle.token.specs.Response.{response_token};
+ghost use Rattle.card.specs.Card.{word_refusal};
 ghost use Rattle.card.specs.State.{with_message};
 ghost use Rattle.card.specs.Exchange.{response_of, read_word, readback_word, passed_word, payload_word, next_word, check_after, taken, told, took};
 
@@ -12,7 +13,7 @@ use crate::Note;
 use rules::Name;
 use rules::refusal::Refusal;
 use token::command::{Command, CommandToken};
-use token::response::{Response, ResponseBuilt, ResponseToken, any_set};
+use token::response::{Response, ResponseToken};
 
 /// Word k of READ's answer.
 #[tactic(auto, unfolding(crate::specs::Exchange::read_word))]
@@ -52,13 +53,7 @@ impl Card {
             status: self.port.status,
             module_state: self.module_state,
         };
-        match ResponseToken::new(fields) {
-            ResponseBuilt::Token(token) => token,
-            ResponseBuilt::Argument => ResponseToken {
-                first: 0,
-                second: 0,
-            },
-        }
+        ResponseToken::new(fields).unwrap()
     }
 
     /// Word k behind a token that passes steps 1 to 3.
@@ -91,7 +86,7 @@ impl Card {
         {
             return 0;
         }
-        if any_set(judge::token_status(self.size, self.bases, token)) {
+        if judge::token_status(self.size, self.bases, token).any_set() {
             return 0;
         }
         self.passed_word(memory, fields, k)
@@ -153,6 +148,8 @@ impl Card {
         ensures answer { refusal_of result ≡ (told self.old memory.now).refusal }
         ensures word { IfOk result (λ word. word ≡ (told self.old memory.now).word) }
         ensures after { self.new ≡ (told self.old memory.now).card }
+        ensures refused { OnErr result (self.new ≡ self.old) }
+        ensures number { refusal_of result ≡ word_refusal self.old (length memory.now) }
     {
         self.word_refusal(memory.len())?;
         let word = self.next_word(memory);
@@ -166,6 +163,8 @@ impl Card {
     pub fn take(&mut self, memory: &[u16], word: u16) -> Result<(), Refusal>
         ensures answer { refusal_of result ≡ (took self.old memory.now word).refusal }
         ensures after { self.new ≡ (took self.old memory.now word).card }
+        ensures refused { OnErr result (self.new ≡ self.old) }
+        ensures number { refusal_of result ≡ word_refusal self.old (length memory.now) }
     {
         self.word_refusal(memory.len())?;
         let note = self.port.message.note;

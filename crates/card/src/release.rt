@@ -1,5 +1,5 @@
 // What a released message does: it is judged, and where it is accepted its command acts.
-ghost use Rattle.std.specs.Prelude.{◌≡◌, ◌+◌, ◌*◌, ◌^◌, ◌≤◌, length, OnOk, if◌then◌else◌, nat_eq};
+ghost use Rattle.std.specs.Prelude.{◌≡◌, ◌+◌, ◌*◌, ◌^◌, ◌≤◌, length, OnOk, OnErr, if◌then◌else◌, nat_eq};
 ghost use Rattle.judge.specs.Judge.{word_place};
 ghost use Rattle.rules.specs.Refusal.{refusal_of};
 ghost use Rattle.rules.specs.Rules.{tick, write};
@@ -12,7 +12,7 @@ use judge::Bases;
 use rules::Name;
 use rules::refusal::Refusal;
 use token::command::Command;
-use token::response::{Status, any_set};
+use token::response::Status;
 
 // ---- effects
 
@@ -170,7 +170,7 @@ impl Card {
             return;
         }
         let status = self.judged_status(left);
-        if any_set(status) {
+        if status.any_set() {
             self.note(status);
             return;
         }
@@ -199,7 +199,7 @@ impl Card {
         if self.release_refusal(size, left).is_err() {
             return false;
         }
-        !self.is_silent(left) & !any_set(self.judged_status(left))
+        !self.is_silent(left) & !self.judged_status(left).any_set()
     }
 
     /// Ends the message, with up to 15 bits of an unfinished word left over: judges it, and acts where it is accepted: State, Size,
@@ -209,6 +209,7 @@ impl Card {
         ensures answer { refusal_of result ≡ (released self.old (length memory.old) left).refusal }
         ensures after { self.new ≡ (released self.old (length memory.old) left).card }
         ensures memory_after { memory.new ≡ memory_after self.old memory.old left }
+        ensures refused { OnErr result ((self.new ≡ self.old) × (memory.new ≡ memory.old)) }
     {
         self.release_refusal(memory.len(), left)?;
         self.end(memory, left);

@@ -38,7 +38,7 @@ some-number Turn = refl
 some-number Count = refl
 some-number Record = refl
 
-not-none : (r : Refusal) → 0 ≡ number_of r → ⊥
+pub not-none : (r : Refusal) → 0 ≡ number_of r → ⊥
 not-none r h = true≢false (ap (λ n. eqb n 0) h ∙ some-number r)
 
 -- an answer with no value
