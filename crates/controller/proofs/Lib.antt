@@ -1,4 +1,7 @@
 pub mod AnswerLaws
 pub mod Known
 pub mod MessageLaws
+pub mod Numbers
 pub mod Refusals
+pub mod TurnLaws
+pub mod Unique
