@@ -12,25 +12,25 @@ use Rattle.rules.specs.Refusals as refusal
 use Rattle.rules.proofs.Cases.{by-test, by-number}
 use Rattle.card.specs.Card.{gives_card, selected, word_refusal}
 use Rattle.card.specs.declared.Card.{Card}
-use Rattle.card.specs.declared.CardAfter.{CardAfter}
+use Rattle.card.specs.Answers.{CardAfter}
 use Rattle.shifter.specs.Shifter.{cleared, left_over}
 use Rattle.shifter.specs.declared.Shifter.{Shifter}
 use Rattle.pins.specs.Pins.{pins_of, gives_pins, shifter_refusal, behind_shifter, answered, powered_pins, module_pins, selected_pins, clocked, released_pins, memory_after_pins}
-use Rattle.pins.specs.declared.Clocked.{Clocked}
+use Rattle.pins.specs.Answers.{Clocked}
 use Rattle.pins.specs.declared.Pins.{Pins}
-use Rattle.pins.specs.declared.PinsAfter.{PinsAfter}
+use Rattle.pins.specs.Answers.{PinsAfter}
 use Rattle.two_ports.specs.OnePort as card
 use Rattle.two_ports.specs.OnePort.{seen_after, OneCall, Given, one_answer, port_answer}
 use Rattle.two_ports.specs.Ports.{powered_ports, module_ports, selected_ports, ports_word_refusal, released_ports}
 use Rattle.two_ports.specs.State.{is_port, turned, seen_from, view, view_from}
 use Rattle.two_ports.specs.declared.Ports.{Ports}
-use Rattle.two_ports.specs.declared.PortsAfter.{PortsAfter}
+use Rattle.two_ports.specs.Answers.{PortsAfter}
 use Rattle.two_ports.proofs.OnePort.{AloneFrom, SameCall, SameAnswer, SameAnswers, all-alike, alike, alive, same-call, tell-stays-alone, take-stays-alone, power-up-alone, powered-alone}
 use Rattle.two_ports.proofs.Refusals.{module-ports-refused, released-ports-refused, word-at-port}
 use Rattle.two_pins.specs.OnePortPins.{view_pins_from, seen_pins_after, seen_clocked, PinCall, set_module, select, clock, release, gives_pin, pin_answer, port_pin_answer}
 use Rattle.two_pins.specs.PortPins.{port_pins_of, gives_port_pins, pins_from, view_pins, behind_shifters, left_at, powered_port_pins, module_port_pins, selected_port_pins, clocked_port, released_port_pins, memory_after_port_pins}
 use Rattle.two_pins.specs.declared.PortPins.{PortPins}
-use Rattle.two_pins.specs.declared.PortPinsAfter.{PortPinsAfter}
+use Rattle.two_pins.specs.Answers.{PortPinsAfter}
 use Rattle.two_pins.proofs.Cases.{select_number, select-pins-case, memory-pins-case}
 use Rattle.two_pins.proofs.Clock.{pins-ports, pins-twice, clocked-port-case, clock-sees, clock-sends, clock-number}
 use Rattle.two_pins.proofs.Order.{shifters_out, in-range-number}
