@@ -3,10 +3,9 @@ use Prim.Native.Nat.{ℕ, ◌+◌, ◌-◌, ◌*◌, ◌%◌, ◌^◌, ◌<◌}
 use native.Mathlib.Nat.{mod-eq_of_lt}
 use native.Mathlib.Omega.{arith}
 use mathlib.Core.Path.{◌≡◌, refl, ap, ◌∙◌}
-use mathlib.Core.Bool.{Bool}
 use Rattle.bits.specs.Bits.{bits, digit}
 use Rattle.crossing.specs.Crossing.{first_number}
-use Rattle.crossing.specs.Steps.{line_across, WordAcross, word_across}
+use Rattle.crossing.specs.Steps.{line_across, word_across}
 use Rattle.pins.specs.Answers.{Clocked}
 use Rattle.crossing.proofs.Turns.{word_from, word_rest, word_bit, word-starts, word-goes-on, word-ends, word-fits}
 use Rattle.crossing.proofs.cross_word.Goals as goal
