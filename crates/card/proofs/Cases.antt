@@ -15,9 +15,9 @@ use Rattle.card.specs.Card.{gives_card, powered, selected, module_refusal, modul
 use Rattle.card.specs.Exchange.{Exchanged, check_after, next_word, taken, told, took, exchanged, with_told, word_told}
 use Rattle.card.specs.State.{emptied, fresh, with_message, with_module, with_note, sized, out_of_range}
 use Rattle.card.specs.declared.Card.{Card}
-use Rattle.card.specs.declared.CardAfter.{CardAfter}
+use Rattle.card.specs.Answers.{CardAfter}
 use Rattle.card.specs.declared.Note.{Note}
-use Rattle.card.specs.declared.Told.{Told}
+use Rattle.card.specs.Answers.{Told}
 
 -- ---- power-up
 

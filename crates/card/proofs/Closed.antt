@@ -23,7 +23,7 @@ use Rattle.card.specs.Card.{gives_card, selected}
 use Rattle.card.specs.Exchange.{fields, told}
 use Rattle.card.specs.State.{emptied, with_message}
 use Rattle.card.specs.declared.Card.{Card}
-use Rattle.card.specs.declared.CardAfter.{CardAfter}
+use Rattle.card.specs.Answers.{CardAfter}
 use Rattle.card.specs.declared.Message.{Message}
 use Rattle.card.proofs.Laws.{InRange}
 use Rattle.card.proofs.Sound.{not-out}

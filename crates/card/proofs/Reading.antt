@@ -23,7 +23,7 @@ use Rattle.card.specs.Exchange.{fields, heard_status, read_word, passed_word, pa
 use Rattle.card.specs.State.{emptied, note_of, no_note, with_message}
 use Rattle.card.specs.declared.Card.{Card}
 use Rattle.card.specs.declared.Note.{Note}
-use Rattle.card.specs.declared.Told.{Told}
+use Rattle.card.specs.Answers.{Told}
 use Rattle.card.proofs.Cases.{selected-case, told-case, told-quiet, took-case, as-noted, none-told}
 use Rattle.card.proofs.Laws.{length-small}
 use Rattle.card.proofs.Telling.{select-clears}

@@ -11,7 +11,7 @@ use Rattle.card.specs.Exchange.{next_word, payload_word, passed_word, taken, tol
 use Rattle.card.specs.Release.{silent, judged, noted, acted, ended, is_accepted, writes, stored, ended_memory, release_refusal, released, memory_after}
 use Rattle.card.specs.State.{emptied, fresh, note_of, no_note, with_message, with_note}
 use Rattle.card.specs.declared.Card.{Card}
-use Rattle.card.specs.declared.CardAfter.{CardAfter}
+use Rattle.card.specs.Answers.{CardAfter}
 use Rattle.card.specs.declared.Note.{Note}
 use Rattle.card.proofs.Cases.{powered-case, selected-case, told-case, took-case, took-quiet, as-noted, none-told, note-refusal, took-noted, released-case, ended-case}
 use Rattle.card.proofs.Refusals.{told-number}

@@ -4,9 +4,10 @@ use Prim.Native.Nat.{ℕ, ◌≤◌}
 use mathlib.Core.Bool.{Bool, true, false, cond, not, false≢true}
 use mathlib.Core.List.{List}
 use mathlib.Core.Path.{◌≡◌, refl, sym, ap, ◌∙◌}
-use borrow.Author.Tests.{eqb-true, leb-true}
+use borrow.Author.Tests.{eqb-true, leb-true, lt-ltb, le-ltb, le-leb, lt-leb, eq-eqb, ne_eqb}
 use lib.Dec.{eqb, leb, lit<}
 use lib.ListN.{length, get_or}
+use Rattle.std.specs.Prelude.{Result, Ok, Err}
 use Rattle.rules.specs.Refusals as refusal
 use Rattle.rules.specs.Rules.{message_words}
 use Rattle.token.specs.Answers.{Read}
@@ -14,14 +15,13 @@ use Rattle.token.specs.Command.{good_command, command_read, command_read_gives}
 use Rattle.token.specs.Marks.{any_wrong}
 use Rattle.token.specs.Response.{response_read, response_read_gives}
 use Rattle.token.specs.declared.command.Command.{Command}
-use Rattle.std.specs.Prelude.{Result}
-use Rattle.token.specs.declared.response.Response.{Response}
 use Rattle.token.specs.declared.marks.Wrong.{Wrong}
+use Rattle.token.specs.declared.response.Response.{Response}
 use Rattle.token.proofs.Wrong.{response-names}
 use Rattle.controller.specs.Reader.{Answer, reading_gives, read_refusal, token_good, token_wrong, fields_read, answer_read}
-use Rattle.controller.specs.declared.Reading.{Reading}
-use Rattle.controller.specs.declared.Reading.TheVariants.{Good, BadPayload, BadToken, Argument, Count}
-use Rattle.controller.proofs.MessageLaws.{passed-by}
+use Rattle.controller.specs.declared.reader.Unread.{Unread}
+use Rattle.controller.specs.declared.reader.Unread.TheVariants.{Payload, Token, Refused}
+use Rattle.controller.proofs.MessageLaws.{passed-by, message-long, tail-lent}
 
 -- an answer that is not refused has a length up to 63, and as many words as that asks for
 pub read-passed : (len count : ℕ) → read_refusal len count ≡ refusal.none → (len ≤ 63) × (count ≡ message_words len)
@@ -66,23 +66,24 @@ pub answer-names : (len : ℕ) (words : List ℕ) → read_refusal len (length w
 unfolding answer_read token_good token_wrong
 answer-names len words passed = rw passed (response-names (get_or words 0 0) (get_or words 1 0))
 
--- what the reader's answer Good tells
-pub answer-good : (r : Reading) (f : Response) (len : ℕ) (words : List ℕ) → reading_gives r ≡ answer_read len words → r ≡ Good f
+-- what the reader's answer Ok tells
+pub answer-good : (r : Result Response Unread) (f : Response) (len : ℕ) (words : List ℕ) → reading_gives r ≡ answer_read len words → r ≡ Ok f
     → GoodAnswer f len words
 answer-good r f len words read good =
-    let same : reading_gives (Good f) ≡ answer_read len words = ap reading_gives (sym good) ∙ read in
+    let same : reading_gives (Ok f) ≡ answer_read len words = ap reading_gives (sym good) ∙ read in
     let shown : (answer_read len words).payload ≡ true = sym (ap (λ (a : Answer). a.payload) same) in
     record { shown = shown; fields = sym (ap (λ (a : Answer). a.fields) same); count = good-count len words shown }
 
-not-good : (r : Reading) → ((f : Response) → r ≡ Good f → ⊥) → (reading_gives r).payload ≡ false
-not-good (Good f) k = absurd (k f refl)
-not-good (BadPayload f) k = refl
-not-good (BadToken w) k = refl
-not-good Argument k = refl
-not-good Count k = refl
+not-good : (r : Result Response Unread) → ((f : Response) → r ≡ Ok f → ⊥) → (reading_gives r).payload ≡ false
+not-good (Ok f) k = absurd (k f refl)
+not-good (Err (Payload f)) k = refl
+not-good (Err (Token w)) k = refl
+not-good (Err (Refused e)) k = refl
 
 -- what each other answer tells: there is no payload to show
-pub answer-not-good : (r : Reading) (len : ℕ) (words : List ℕ) → reading_gives r ≡ answer_read len words
-    → ((f : Response) → r ≡ Good f → ⊥)
+pub answer-not-good : (r : Result Response Unread) (len : ℕ) (words : List ℕ) → reading_gives r ≡ answer_read len words
+    → ((f : Response) → r ≡ Ok f → ⊥)
     → (answer_read len words).payload ≡ false
 answer-not-good r len words read k = sym (ap (λ (a : Answer). a.payload) read) ∙ not-good r k
+
+pub ruleset reading = (lt-ltb, le-ltb, le-leb, lt-leb, eq-eqb, ne_eqb, message-long, tail-lent)

@@ -1,4 +1,6 @@
 pub mod AnswerLaws
 pub mod Known
 pub mod MessageLaws
+pub mod Numbers
 pub mod Refusals
+pub mod TurnLaws

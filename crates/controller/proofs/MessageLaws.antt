@@ -14,15 +14,15 @@ use lib.Seq.{take_all, take-suc, length-take-le, drop-drop, drop-cons, set_at, a
 use Rattle.crc.specs.Crc.{crc16}
 use Rattle.rules.specs.Refusals as refusal
 use Rattle.rules.specs.Rules.{message_words}
+use Rattle.rules.specs.declared.refusal.Refusal.{Refusal}
+use Rattle.rules.specs.declared.refusal.Refusal.TheVariants.{Argument}
+use Rattle.rules.proofs.OneAnswer.{not-none, same-refusal}
+use Rattle.std.specs.Prelude.{Result, Ok, Err}
 use Rattle.token.proofs.CommandTrip.{command-fields}
 use Rattle.token.proofs.Good.{both}
 use Rattle.token.specs.Answers.{Built}
 use Rattle.token.specs.Command.{command_token, command_fits, command_built, command_built_gives, command_fields}
 use Rattle.token.specs.declared.command.Command.{Command}
-use Rattle.std.specs.Prelude.{Result, Ok, Err}
-use Rattle.rules.specs.declared.refusal.Refusal.{Refusal}
-use Rattle.rules.specs.declared.refusal.Refusal.TheVariants.{Argument}
-use Rattle.rules.proofs.OneAnswer.{not-none}
 use Rattle.token.specs.declared.command.CommandToken.{CommandToken}
 use Rattle.controller.specs.Builder.{is_reading, with_check_word, payload, block_fits, build_refusal}
 use Rattle.bits.specs.Buffers.{over}
@@ -43,18 +43,23 @@ over-next words buffer i some room =
     rw (add-one, take-suc words i 0 some, taken)
     (rw taken at (over-more (take i words) (get_or words i 0) buffer (omega arith)))
 
--- a token's two words
-pub token-over : (buffer : List ℕ) (first second : ℕ) → 2 ≤ length buffer → set (set buffer 0 first) 1 second ≡ over (first ∷ second ∷ []) buffer
-token-over [] first second room = absurd (omega arith)
-token-over (a ∷ []) first second room = absurd (omega arith)
-token-over (a ∷ b ∷ buffer) first second room = refl
+-- lists of no word and of one
+pub no-words : (words : List ℕ) → length words ≡ 0 → words ≡ []
+no-words [] none = refl
+no-words (a ∷ words) none = absurd (omega arith)
 
--- a token and then what lies behind it
-pub message-over : (first second : ℕ) (rest buffer : List ℕ)
-    → take 2 (over (first ∷ second ∷ []) buffer) ++ over rest (drop 2 (over (first ∷ second ∷ []) buffer)) ≡ over (first ∷ second ∷ rest) buffer
-message-over first second rest buffer =
+pub one-word : (words : List ℕ) (word : ℕ) → length words ≡ 1 → set words 0 word ≡ word ∷ []
+one-word [] word one = absurd (omega arith)
+one-word (a ∷ []) word one = refl
+one-word (a ∷ b ∷ words) word one = absurd (omega arith)
+
+-- a token, and a message's other words written to the part behind it
+pub message-laid : (first second words : ℕ) (rest buffer : List ℕ) → length rest + 2 ≡ words
+    → put_mid 2 (words - 2) (first ∷ second ∷ drop 2 buffer) rest ≡ over (first ∷ second ∷ rest) buffer
+message-laid first second words rest buffer whole =
+    let behind : words - 2 ≡ length rest = omega arith in
     let two : 2 + length rest ≡ suc (suc (length rest)) = omega arith in
-    ap (λ (l : List ℕ). first ∷ second ∷ (rest ++ l)) (drop-drop (length rest) 2 buffer ∙ ap (λ (n : ℕ). drop n buffer) two)
+    rw behind (ap (λ (l : List ℕ). first ∷ second ∷ (rest ++ l)) (drop-drop (length rest) 2 buffer ∙ ap (λ (n : ℕ). drop n buffer) two))
 
 -- ---- the part of a buffer from a place on
 
@@ -146,18 +151,18 @@ pub token-built : (f : Command) (r : Result CommandToken Refusal) (t : CommandTo
 unfolding command_built
 token-built f r t made is = built-by (command_fits f) t (command_token f) (ap command_built_gives (sym is) ∙ made)
 
-unbuilt-by : (fits : Bool) (made : CommandToken) (e : Refusal)
+unbuilt-by : (fits : Bool) (e : Refusal) (made : CommandToken)
     → command_built_gives (Err e) ≡ cond fits (command_built_gives (Ok made)) (command_built_gives (Err Argument))
-    → fits ≡ false
-unbuilt-by true made e h = absurd (not-none e (sym (ap (λ (b : Built CommandToken). b.refusal) h)))
-unbuilt-by false made e h = refl
+    → (fits ≡ false) × (e ≡ Argument)
+unbuilt-by true e made h = absurd (not-none e (sym (ap (λ (b : Built CommandToken). b.refusal) h)))
+unbuilt-by false e made h = (refl, same-refusal e Argument (ap (λ (b : Built CommandToken). b.refusal) h))
 
 -- where none was built, the fields do not fit
 pub token-not-built : (f : Command) (r : Result CommandToken Refusal) (e : Refusal)
     → command_built_gives r ≡ command_built f.code f.length f.sub_address → r ≡ Err e
-    → command_fits f ≡ false
+    → (command_fits f ≡ false) × (e ≡ Argument)
 unfolding command_built
-token-not-built f r e made is = unbuilt-by (command_fits f) (command_token f) e (ap command_built_gives (sym is) ∙ made)
+token-not-built f r e made is = unbuilt-by (command_fits f) e (command_token f) (ap command_built_gives (sym is) ∙ made)
 
 -- it has the fields that it was built from
 pub built-fields : (f : Command) (t : CommandToken) → command_fits f ≡ true → t ≡ command_token f → command_fields t.first t.second ≡ f

@@ -1,4 +1,3 @@
 pub mod Pinned
 pub mod Refusals
 pub mod Run
-pub mod Unique

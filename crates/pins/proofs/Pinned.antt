@@ -19,8 +19,8 @@ use Rattle.card.specs.Exchange.{told, exchanged, with_told, next_word, taken}
 use Rattle.card.specs.Release.{release_refusal, released, memory_after}
 use Rattle.card.specs.State.{note_of}
 use Rattle.card.specs.declared.Card.{Card}
-use Rattle.card.specs.declared.CardAfter.{CardAfter}
-use Rattle.card.specs.declared.Told.{Told}
+use Rattle.card.specs.Answers.{CardAfter}
+use Rattle.card.specs.Answers.{Told}
 use Rattle.card.proofs.Cases.{told-quiet, told-refusal, exchanged-quiet}
 use Rattle.card.proofs.Laws.{in-range, lent, released-lent}
 use Rattle.card.proofs.Ranges.{exchanged-ranged}
@@ -28,15 +28,15 @@ use Rattle.card.proofs.Refusals.{released-number}
 use Rattle.card.proofs.Sound.{not-out}
 use Rattle.card.proofs.Telling.{release-ignores-note, memory-ignores-note}
 use Rattle.shifter.specs.Shifter.{cleared, current, step, left_over}
-use Rattle.shifter.specs.declared.LeftOver.{LeftOver}
+use Rattle.shifter.specs.Answers.{LeftOver}
 use Rattle.shifter.specs.declared.Shifter.{Shifter}
-use Rattle.shifter.specs.declared.Step.{Step}
+use Rattle.shifter.specs.Answers.{Step}
 use Rattle.card.specs.Whole.{after, answers, listed, listened, card_after_line, memory_after_line, sent_bits, refusals_of, heard}
 use Rattle.card.proofs.Closed.{Closed, selected-idle, closed, through}
 use Rattle.card.proofs.Holding.{Idle, holding, word-quiet}
 use Rattle.pins.specs.AtPins.{Ran, behind, ran, released_after, heard_at_pins}
 use Rattle.pins.specs.Pins.{pins_of, gives_pins, shifter_refusal, behind_shifter, selected_pins, module_pins, told_first, took_last, clocked, released_pins, memory_after_pins}
-use Rattle.pins.specs.declared.Clocked.{Clocked}
+use Rattle.pins.specs.Answers.{Clocked}
 use Rattle.pins.specs.declared.Pins.{Pins}
 use Rattle.shifter.proofs.Midway.{midway, midway-count, next-bit, step-midway, step-sixteenth, current-later}
 

@@ -12,13 +12,13 @@ use Rattle.card.specs.Card.{selected, module_set, word_refusal}
 use Rattle.card.specs.Release.{released}
 use Rattle.card.specs.State.{fresh}
 use Rattle.card.specs.declared.Card.{Card}
-use Rattle.card.specs.declared.CardAfter.{CardAfter}
+use Rattle.card.specs.Answers.{CardAfter}
 use Rattle.card.proofs.Refusals.{powered-refused, module-refused, released-refused, memory-refused}
 use Rattle.shifter.specs.Shifter.{cleared, left_over}
 use Rattle.pins.specs.Pins.{pins_of, shifter_refusal, behind_shifter, answered, powered_pins, selected_pins, module_pins, clocked, released_pins, memory_after_pins}
-use Rattle.pins.specs.declared.Clocked.{Clocked}
+use Rattle.pins.specs.Answers.{Clocked}
 use Rattle.pins.specs.declared.Pins.{Pins}
-use Rattle.pins.specs.declared.PinsAfter.{PinsAfter}
+use Rattle.pins.specs.Answers.{PinsAfter}
 
 pub powered-pins-refused : (size : ℕ) → ((powered_pins size).refusal ≡ refusal.none → ⊥) → (powered_pins size).pins ≡ pins_of (fresh 0) cleared
 unfolding powered_pins

@@ -18,21 +18,21 @@ use Rattle.card.specs.State.{emptied, note_of}
 use Rattle.card.specs.Run as run
 use Rattle.card.specs.Run.{Run}
 use Rattle.card.specs.declared.Card.{Card}
-use Rattle.card.specs.declared.CardAfter.{CardAfter}
+use Rattle.card.specs.Answers.{CardAfter}
 use Rattle.card.specs.declared.Note.{Note}
-use Rattle.card.specs.declared.Told.{Told}
+use Rattle.card.specs.Answers.{Told}
 use Rattle.card.proofs.Cases.{module-case, told-quiet, released-case, ended-case}
 use Rattle.card.proofs.Laws.{lent}
 use Rattle.card.proofs.Telling.{take-by-note}
 use Rattle.shifter.specs.Shifter.{current, step, left_over}
-use Rattle.shifter.specs.declared.Sent.{Sent}
+use Rattle.shifter.specs.Answers.{Sent}
 use Rattle.shifter.specs.declared.Shifter.{Shifter}
 use Rattle.pins.specs.AtPins.{ran, released_after, heard_at_pins}
 use Rattle.pins.specs.Pins.{shifter_refusal, behind_shifter, answered, powered_pins, module_pins, selected_pins, told_first, took_last, clocked, released_pins}
 use Rattle.pins.specs.Run.{RunPins, power_up, select, set_module, clock, release}
-use Rattle.pins.specs.declared.Clocked.{Clocked}
+use Rattle.pins.specs.Answers.{Clocked}
 use Rattle.pins.specs.declared.Pins.{Pins}
-use Rattle.pins.specs.declared.PinsAfter.{PinsAfter}
+use Rattle.pins.specs.Answers.{PinsAfter}
 
 -- the card is one run from power-up, and the shifter is in range; and in the middle of a word of an open message the word told is the one whose
 -- bits go out

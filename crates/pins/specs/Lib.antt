@@ -1,3 +1,4 @@
+pub mod Answers
 pub mod AtPins
 pub mod Pins
 pub mod Run

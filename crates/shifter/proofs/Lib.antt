@@ -2,5 +2,3 @@ pub mod Clears
 pub mod Midway
 pub mod Refusals
 pub mod Sixteen
-pub mod Types
-pub mod Unique

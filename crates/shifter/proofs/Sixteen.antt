@@ -15,9 +15,9 @@ use Rattle.bits.specs.Bits.{bits, digit, number}
 use Rattle.bits.proofs.Digits.{length-bits}
 use Rattle.rules.specs.Refusals as refusal
 use Rattle.shifter.specs.Shifter.{cleared, current, joined, step}
-use Rattle.shifter.specs.declared.Sent.{Sent}
+use Rattle.shifter.specs.Answers.{Sent}
 use Rattle.shifter.specs.declared.Shifter.{Shifter}
-use Rattle.shifter.specs.declared.Step.{Step}
+use Rattle.shifter.specs.Answers.{Step}
 use Rattle.shifter.proofs.Midway.{midway, step-within, step-last, next-bit, step-midway, step-sixteenth, current-later}
 
 -- ---- bit after bit. `nexts i` is the card's next word as it stands at bit i.
