@@ -9,10 +9,10 @@ use Rattle.rules.specs.declared.refusal.Refusal.{Refusal}
 use Rattle.rules.specs.declared.refusal.Refusal.TheVariants.{Size, State, Open, Closed, Argument, Room, Turn, Count, Record}
 
 -- the refusal with a number; Size where none has it
-with_number : ℕ → Refusal
+pub with_number : ℕ → Refusal
 with_number n = get_or (Size ∷ Size ∷ State ∷ Open ∷ Closed ∷ Argument ∷ Room ∷ Turn ∷ Count ∷ Record ∷ []) n Size
 
-with-own-number : (r : Refusal) → with_number (number_of r) ≡ r
+pub with-own-number : (r : Refusal) → with_number (number_of r) ≡ r
 unfolding with_number
 with-own-number Size = refl
 with-own-number State = refl

@@ -3,15 +3,15 @@
 use mathlib.Core.Bool.{cond}
 use mathlib.Core.Path.{◌≡◌, refl, sym, ap, ◌∙◌}
 use lib.Dec.{eqb}
+use Rattle.rules.proofs.OneAnswer.{with_number, with-own-number, same-value}
 use Rattle.text.specs.Letters as letter
 use Rattle.text.specs.Lines.{Shown, line_gives}
 use Rattle.text.specs.declared.Line.{Line}
 use Rattle.text.specs.declared.Line.TheVariants.{Selected, Taken, Released, ModuleSet, Refused}
 use Rattle.text.proofs.hex_word.Reads as hex-word
-use Rattle.text.proofs.line_text.Reads as line-text
-use Rattle.text.proofs.port_line_text.Reads as port-line-text
 use Rattle.text.proofs.put_line.Reads as put-line
-use Rattle.text.proofs.record_of.Reads as record_of
+use Rattle.text.proofs.put_port_line.Reads as put-port-line
+use Rattle.text.proofs.RecordFromArrayU8RECORDBYTES.from.Reads as record-from
 use Rattle.text.proofs.time_text.Reads as time-text
 
 -- the line that gives these
@@ -21,7 +21,7 @@ line_of s =
     (cond (eqb s.letter letter.capital_w) (Taken s.word s.sent)
     (cond (eqb s.letter letter.capital_r) (Released s.status)
     (cond (eqb s.letter letter.capital_m) ModuleSet
-    (Refused s.refusal))))
+    (Refused (with_number s.refusal)))))
 
 back : (line : Line) → line_of (line_gives line) ≡ line
 unfolding line_of
@@ -29,25 +29,23 @@ back Selected = refl
 back (Taken word sent) = refl
 back (Released bits) = refl
 back ModuleSet = refl
-back (Refused number) = refl
+back (Refused r) = ap Refused (with-own-number r)
 
 pub one-line : (l m : Line) → line_gives l ≡ line_gives m → l ≡ m
 one-line l m e = sym (back l) ∙ ap line_of e ∙ back m
 
-pub one-record-of : (κs : _) (a : _) (r s : _) (e f : _) → record_of.Post κs a r e → record_of.Post κs a s f → r ≡ s
-one-record-of κs a r s e f p q = p ∙ sym q
+pub one-record-from : (κs : _) (a : _) (r s : _) (e f : _) → record-from.Post κs a r e → record-from.Post κs a s f → r ≡ s
+one-record-from κs a r s e f p q = p ∙ sym q
 
 pub one-hex-word : (κs : _) (a : _) (r s : _) (e f : _) → hex-word.Post κs a r e → hex-word.Post κs a s f → r ≡ s
 one-hex-word κs a r s e f p q = p ∙ sym q
 
-pub one-line-text : (κs : _) (a : _) (r s : _) (e f : _) → line-text.Post κs a r e → line-text.Post κs a s f → r ≡ s
-one-line-text κs a r s e f p q = p ∙ sym q
-
-pub one-port-line-text : (κs : _) (a : _) (r s : _) (e f : _) → port-line-text.Post κs a r e → port-line-text.Post κs a s f → r ≡ s
-one-port-line-text κs a r s e f p q = p ∙ sym q
-
 pub one-put-line : (κs : _) (a : _) (r s : _) (e f : _) → put-line.Post κs a r e → put-line.Post κs a s f → (r ≡ s) × (e.0.now ≡ f.0.now)
-one-put-line κs a r s e f p q = (p.0 ∙ sym q.0, p.1 ∙ sym q.1)
+one-put-line κs a r s e f p q = (same-value _ r s (p.0 ∙ sym q.0) p.1.0 q.1.0, p.1.1 ∙ sym q.1.1)
+
+pub one-put-port-line : (κs : _) (a : _) (r s : _) (e f : _) → put-port-line.Post κs a r e → put-port-line.Post κs a s f
+    → (r ≡ s) × (e.0.now ≡ f.0.now)
+one-put-port-line κs a r s e f p q = (same-value _ r s (p.0 ∙ sym q.0) p.1.0 q.1.0, p.1.1 ∙ sym q.1.1)
 
 pub one-time-text : (κs : _) (a : _) (r s : _) (e f : _) → time-text.Post κs a r e → time-text.Post κs a s f → r ≡ s
 one-time-text κs a r s e f p q = p ∙ sym q

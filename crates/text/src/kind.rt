@@ -1,9 +1,35 @@
-// The kinds of a trace's records.
+//! The kinds of a trace's records.
+ghost use Rattle.std.specs.Prelude.{◌≡◌};
+ghost use Rattle.text.specs.Kinds.{kind_of};
 
-pub const SELECT: u8 = 1;
+use rules::refusal::Refusal;
 
-pub const WORD: u8 = 2;
+/// What a record asks of a card, by the number that stands first in it.
+#[derive(Clone, Copy, Debug, PartialEq, Eq)]
+pub enum Kind {
+    /// Open a message.
+    Select = 1,
+    /// Tell the answer word and take the record's word.
+    Word = 2,
+    /// Close the message.
+    Release = 3,
+    /// Set STF and the module state.
+    Module = 4,
+}
 
-pub const RELEASE: u8 = 3;
+/// A number that is no kind's is refused with Record.
+impl TryFrom<u8> for Kind {
+    type Error = Refusal;
 
-pub const MODULE: u8 = 4;
+    ghost try_from_gives = { λ number r. r ≡ kind_of number };
+
+    fn try_from(number: u8) -> Result<Kind, Refusal> {
+        match number {
+            1 => Ok(Kind::Select),
+            2 => Ok(Kind::Word),
+            3 => Ok(Kind::Release),
+            4 => Ok(Kind::Module),
+            _ => Err(Refusal::Record),
+        }
+    }
+}
