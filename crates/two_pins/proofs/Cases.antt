@@ -11,7 +11,7 @@ use Rattle.two_ports.specs.Ports.{module_ports, selected_ports, released_ports, 
 use Rattle.two_ports.specs.State.{seen_from}
 use Rattle.two_pins.specs.PortPins.{port_pins_of, gives_port_pins, pins_from, behind_shifters, left_at, module_port_pins, selected_port_pins, released_port_pins, memory_after_port_pins}
 use Rattle.two_pins.specs.declared.PortPins.{PortPins}
-use Rattle.two_pins.specs.declared.PortPinsAfter.{PortPinsAfter}
+use Rattle.two_pins.specs.Answers.{PortPinsAfter}
 
 -- the numbers that they answer
 abbrev pub module_number : PortPins → Bool → ℕ → ℕ

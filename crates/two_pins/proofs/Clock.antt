@@ -31,7 +31,7 @@ use Rattle.two_ports.proofs.Frame.{seen-twice, own_record}
 use Rattle.two_ports.proofs.Ranges.{PortsRange, ports-in-range, ranged-alike, told-ports-ranged}
 use Rattle.two_ports.proofs.Refusals.{word-at-port}
 use Rattle.two_pins.specs.PortPins.{port_pins_of, pins_from, view_pins, behind_shifters, clock_near, bit_near, clocked_port}
-use Rattle.two_pins.specs.declared.PortClocked.{PortClocked}
+use Rattle.two_pins.specs.Answers.{PortClocked}
 use Rattle.two_pins.specs.declared.PortPins.{PortPins}
 
 -- ---- seen from a port

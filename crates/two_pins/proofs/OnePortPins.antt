@@ -24,13 +24,13 @@ use Rattle.two_ports.specs.OnePort.{seen_after, OneCall, Given, one_answer, port
 use Rattle.two_ports.specs.Ports.{powered_ports, module_ports, selected_ports, ports_word_refusal, released_ports}
 use Rattle.two_ports.specs.State.{is_port, turned, seen_from, view, view_from}
 use Rattle.two_ports.specs.declared.Ports.{Ports}
-use Rattle.two_ports.specs.declared.PortsAfter.{PortsAfter}
+use Rattle.two_ports.specs.Answers.{PortsAfter}
 use Rattle.two_ports.proofs.OnePort.{AloneFrom, SameCall, SameAnswer, SameAnswers, all-alike, alike, alive, same-call, tell-stays-alone, take-stays-alone, power-up-alone, powered-alone}
 use Rattle.two_ports.proofs.Refusals.{module-ports-refused, released-ports-refused, word-at-port}
 use Rattle.two_pins.specs.OnePortPins.{view_pins_from, seen_pins_after, seen_clocked, PinCall, set_module, select, clock, release, gives_pin, pin_answer, port_pin_answer}
 use Rattle.two_pins.specs.PortPins.{port_pins_of, gives_port_pins, pins_from, view_pins, behind_shifters, left_at, powered_port_pins, module_port_pins, selected_port_pins, clocked_port, released_port_pins, memory_after_port_pins}
 use Rattle.two_pins.specs.declared.PortPins.{PortPins}
-use Rattle.two_pins.specs.declared.PortPinsAfter.{PortPinsAfter}
+use Rattle.two_pins.specs.Answers.{PortPinsAfter}
 use Rattle.two_pins.proofs.Cases.{select_number, select-pins-case, memory-pins-case}
 use Rattle.two_pins.proofs.Clock.{pins-ports, pins-twice, clocked-port-case, clock-sees, clock-sends, clock-number}
 use Rattle.two_pins.proofs.Order.{shifters_out, in-range-number}

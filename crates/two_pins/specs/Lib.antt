@@ -1,3 +1,4 @@
+pub mod Answers
 pub mod OnePortPins
 pub mod PortPins
 pub mod Run

@@ -20,7 +20,7 @@ use Rattle.card.specs.State.{emptied, with_message, with_port, with_module, size
 use Rattle.card.specs.declared.Card.{Card}
 use Rattle.card.specs.declared.Message.{Message}
 use Rattle.card.specs.declared.Port.{Port}
-use Rattle.card.specs.declared.Told.{Told}
+use Rattle.card.specs.Answers.{Told}
 use Rattle.card.proofs.Cases.{selected-case, module-case, told-case, took-case, released-case, memory-case}
 use Rattle.card.proofs.Refusals.{selected-refused}
 use Rattle.two_ports.specs.declared.Ports.{Ports}

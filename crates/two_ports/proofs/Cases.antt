@@ -23,8 +23,7 @@ use Rattle.card.proofs.Cases.{told-case, took-case, released-case, ended-case}
 use Rattle.card.proofs.Laws.{fails, holds}
 use Rattle.two_ports.specs.declared.PortRecord.{PortRecord}
 use Rattle.two_ports.specs.declared.Ports.{Ports}
-use Rattle.two_ports.specs.declared.PortsAfter.{PortsAfter}
-use Rattle.two_ports.specs.declared.PortsTold.{PortsTold}
+use Rattle.two_ports.specs.Answers.{PortsAfter, PortsTold}
 use Rattle.two_ports.specs.State.{is_selected, live, fresh_ports, is_port, seen_from, with_near_port, view, out_of_range}
 use Rattle.two_ports.specs.Ports.{gives_ports, refusal_at, powered_ports, ports_module_refusal, with_ports_module, module_ports, ports_select_refusal, select_near, selected_ports, ports_word_refusal, tell_near, word_near, told_ports, take_near, took_ports, ports_release_refusal, switched_on, switched_off, switched, far_moved, release_live, release_dead, release_near, released_ports, memory_near, memory_after_ports}
 

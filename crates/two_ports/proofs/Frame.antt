@@ -18,7 +18,7 @@ use Rattle.card.specs.Exchange.{fields}
 use Rattle.card.specs.Release.{is_accepted}
 use Rattle.two_ports.specs.declared.PortRecord.{PortRecord}
 use Rattle.two_ports.specs.declared.Ports.{Ports}
-use Rattle.two_ports.specs.declared.PortsAfter.{PortsAfter}
+use Rattle.two_ports.specs.Answers.{PortsAfter}
 use Rattle.two_ports.specs.State.{live, is_port, turned, seen_from, view_from}
 use Rattle.two_ports.specs.Ports.{done_at, with_ports_module, module_ports, select_near, ports_select_refusal, selected_ports, ports_word_refusal, tell_near, told_ports, take_near, took_ports, switched, far_moved, release_live, release_dead, release_near, ports_release_refusal, released_ports}
 use Rattle.two_ports.proofs.Cases.{module-ports-case, told-ports-case, tell-near-case, take-near-case, release-near-case, moved-case}

@@ -9,3 +9,4 @@ pub mod OnePort
 pub mod Ranges
 pub mod Refusals
 pub mod Sound
+pub mod Unique

@@ -17,10 +17,10 @@ use Rattle.card.specs.Release.{release_refusal}
 use Rattle.card.specs.State as card
 use Rattle.card.specs.State.{emptied, fresh, sized}
 use Rattle.card.specs.declared.Card.{Card}
-use Rattle.card.specs.declared.CardAfter.{CardAfter}
+use Rattle.card.specs.Answers.{CardAfter}
 use Rattle.card.specs.declared.Message.{Message}
 use Rattle.card.specs.declared.Port.{Port}
-use Rattle.card.specs.declared.Told.{Told}
+use Rattle.card.specs.Answers.{Told}
 use Rattle.card.proofs.Laws.{lent, released-lent}
 use Rattle.two_ports.specs.declared.Ports.{Ports}
 use Rattle.two_ports.specs.OnePort.{seen_after, OneCall, set_module, select, tell, take_word, release, Answer, gives, one_answer, port_answer, all_given, after_all}

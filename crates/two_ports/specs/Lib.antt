@@ -1,3 +1,4 @@
+pub mod Answers
 pub mod OnePort
 pub mod Ports
 pub mod Run
