@@ -5,4 +5,3 @@ pub mod Places
 pub mod Refusals
 pub mod Turns
 pub mod Undamaged
-pub mod Unique

@@ -12,7 +12,7 @@ use lib.ListN.{length}
 use Rattle.rules.specs.Refusals as refusal
 use Rattle.card.specs.Whole.{listed}
 use Rattle.pins.specs.AtPins.{Ran, behind}
-use Rattle.pins.specs.declared.Clocked.{Clocked}
+use Rattle.pins.specs.Answers.{Clocked}
 use Rattle.pins.specs.declared.Pins.{Pins}
 use Rattle.crossing.specs.Crossing.{first_of}
 use Rattle.crossing.specs.Steps.{bit_across, line_across, or_else}

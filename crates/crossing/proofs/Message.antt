@@ -1,6 +1,7 @@
 -- A whole message: what `cross` answers, from what its bits make of the card.
 -- Assumes nothing.
 use Prim.Native.Nat.{ℕ, ◌≤◌, ◌<◌}
+use mathlib.Core.Bool.{Bool}
 use mathlib.Core.Path.{◌≡◌, refl, sym, ap, ◌∙◌}
 use mathlib.Core.List.{List, ◌++◌, append_assoc}
 use borrow.Author.Tests.{lt-ltb, le-ltb}
@@ -14,9 +15,10 @@ use Rattle.pins.specs.AtPins.{Ran}
 use Rattle.pins.specs.Pins.{selected_pins, released_pins, memory_after_pins}
 use Rattle.pins.specs.declared.Pins.{Pins}
 use Rattle.delivery.specs.Play.{Crossed}
-use Rattle.crossing.specs.Crossing.{unseen, first_of, played, across, memory_across, got_across}
+use Rattle.crossing.specs.Crossing.{first_of, played, across, memory_across, got_across}
 use Rattle.crossing.specs.Steps.{line_across, or_else, told}
 use Rattle.crossing.specs.declared.Damage.{Damage}
+use Rattle.crossing.specs.declared.Damage.TheVariants.{Unseen}
 use Rattle.crossing.proofs.Damaged.{heard_of, missed_of, played-unseen, played-seen}
 use Rattle.crossing.proofs.Line.{first-across, first-listed, first-one, or-else-assoc}
 
@@ -38,12 +40,12 @@ module _ (d : Damage) (p : Pins) (memory sent got : List ℕ) where
   abbrev missed : Ran
   missed = line_across d 0 p memory (stream 16 sent)
 
-  pub message-unseen : length sent ≤ length got → d.kind ≡ unseen
+  pub message-unseen : length sent ≤ length got → (fill : Bool) → d ≡ Unseen fill
       → (across p memory sent d (length got) ≡ record { refusal = refusal.none; card = (told missed).card; pins = (told missed).pins })
       × (memory_across p memory sent d (length got) ≡ memory)
       × (got_across p memory sent d got ≡ over (words (length sent) missed.sent) got)
   unfolding missed_of told
-  message-unseen h kind = with-room (missed_of memory missed) h (played-unseen d p memory sent kind)
+  message-unseen h fill e = with-room (missed_of memory missed) h (rw e (played-unseen p memory sent fill))
 
   -- between both
   abbrev heard : Ran
@@ -58,13 +60,13 @@ module _ (d : Damage) (p : Pins) (memory sent got : List ℕ) where
       ∙ ap (or_else select) (first-across d memory 0 (selected_pins p).pins (stream 16 sent) (listed release) ∙ ap (or_else (first_of all)) (first-one release))
       ∙ sym (or-else-assoc select (first_of all) release)
 
-  pub message-seen : length sent ≤ length got → (d.kind ≡ unseen → ⊥)
+  pub message-seen : length sent ≤ length got → ((fill : Bool) → d ≡ Unseen fill → ⊥)
       → let released = released_pins heard.pins (length memory) in
       (across p memory sent d (length got) ≡ record { refusal = refusal.none; card = or_else (or_else (selected_pins p).refusal (first_of heard.refused)) released.refusal; pins = released.pins })
       × (memory_across p memory sent d (length got) ≡ memory_after_pins heard.pins memory)
       × (got_across p memory sent d got ≡ over (words (length sent) heard.sent) got)
   unfolding heard_of
-  message-seen h kind =
+  message-seen h other =
       let released = released_pins heard.pins (length memory) in
-      let r = with-room (heard_of p memory heard) h (played-seen d p memory sent kind) in
+      let r = with-room (heard_of p memory heard) h (played-seen p memory sent d other) in
       (r.0 ∙ ap (λ (n : ℕ). record { refusal = refusal.none; card = n; pins = released.pins }) (first-number (selected_pins p).refusal released.refusal), r.1, r.2)

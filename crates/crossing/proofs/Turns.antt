@@ -16,13 +16,11 @@ use Rattle.bits.specs.Lines.{words}
 use Rattle.bits.proofs.Digits.{length-bits, number-lt}
 use Rattle.bits.proofs.Lines.{length-words}
 use Rattle.pins.specs.AtPins.{Ran, behind}
-use Rattle.pins.specs.declared.Clocked.{Clocked}
+use Rattle.pins.specs.Answers.{Clocked}
 use Rattle.pins.specs.declared.Pins.{Pins}
 use Rattle.crossing.specs.Crossing.{first_of}
-use Rattle.crossing.specs.Steps.{bit_across, line_across, or_else, told, word_across}
+use Rattle.crossing.specs.Steps.{bit_across, line_across, or_else, Told, told, WordAcross, word_across}
 use Rattle.crossing.specs.declared.Damage.{Damage}
-use Rattle.crossing.specs.declared.Told.{Told}
-use Rattle.crossing.specs.declared.WordAcross.{WordAcross}
 use Rattle.crossing.proofs.Line.{joined, across-on, length-across, first-across, first-listed, or-else-assoc, or-else-none}
 
 -- ---- the bits of a word
@@ -41,48 +39,56 @@ word-more before read c rest =
     (sym (add_assoc read (digit c.bit * 2 ^ length rest.sent) (number rest.sent)))
 
 module _ (d : Damage) (memory : List ℕ) (k word : ℕ) where
-  -- with some bits left
+  -- from bit `at` on
   unfoldable pub word_rest : ℕ → Pins → Ran
-  word_rest left p = line_across d (k * 16 + (16 - left)) p memory (bits left word)
+  word_rest at p = line_across d (k * 16 + at) p memory (bits (16 - at) word)
 
-  pub word-starts : (p : Pins) → word_across (line_across d (k * 16) p memory (bits 16 word)) ≡ word_from 0 0 (word_rest 16 p)
+  pub word-starts : (p : Pins) → word_across (line_across d (k * 16) p memory (bits 16 word)) ≡ word_from 0 0 (word_rest 0 p)
   unfolding word_across word_from word_rest or_else
   word-starts p = rw (add-zero (k * 16), zero-add)
 
   -- the bit that goes now
   unfoldable pub word_bit : ℕ → Pins → Clocked
-  word_bit left p = bit_across d (k * 16 + (16 - left)) p memory (eqb (word / 2 ^ (left - 1) % 2) 1)
+  word_bit at p = bit_across d (k * 16 + at) p memory (eqb (word / 2 ^ (15 - at) % 2) 1)
 
-  pub word-goes-on : (before read left : ℕ) (p : Pins) → 0 < left → left ≤ 16
-      → word_from before read (word_rest left p)
-      ≡ word_from (or_else before (word_bit left p).refusal) (read + digit (word_bit left p).bit * 2 ^ (left - 1)) (word_rest (left - 1) (word_bit left p).pins)
-  unfolding word_rest word_bit line_across bits
-  word-goes-on before read zero p some few = absurd (omega arith)
-  word-goes-on before read (suc n) p some few =
-      let i : ℕ = k * 16 + (16 - suc n) in
+  word-next : (before read n i : ℕ) (p : Pins)
+      → let c = bit_across d i p memory (eqb (word / 2 ^ n % 2) 1) in
+      word_from before read (line_across d i p memory (bits (suc n) word))
+      ≡ word_from (or_else before c.refusal) (read + digit c.bit * 2 ^ n) (line_across d (suc i) c.pins memory (bits n word))
+  unfolding line_across bits
+  word-next before read n i p =
       let c : Clocked = bit_across d i p memory (eqb (word / 2 ^ n % 2) 1) in
       let rest : Ran = line_across d (suc i) c.pins memory (bits n word) in
-      let near : suc n - 1 ≡ n = omega arith in
-      let next : suc i ≡ k * 16 + (16 - n) = omega arith in
-      let long : length rest.sent ≡ n = length-across d memory (suc i) c.pins (bits n word) ∙ length-bits n word in
-      rw near
-      (word-more before read c rest
-      ∙ ap (λ (l : ℕ). word_from (or_else before c.refusal) (read + digit c.bit * 2 ^ l) rest) long
-      ∙ ap (λ (j : ℕ). word_from (or_else before c.refusal) (read + digit c.bit * 2 ^ n) (line_across d j c.pins memory (bits n word))) next)
+      word-more before read c rest
+      ∙ ap (λ (l : ℕ). word_from (or_else before c.refusal) (read + digit c.bit * 2 ^ l) rest)
+      (length-across d memory (suc i) c.pins (bits n word) ∙ length-bits n word)
 
-  pub word-ends : (before read : ℕ) (p : Pins) → word_from before read (word_rest 0 p) ≡ record { card = before; pins = p; word = read }
+  pub word-goes-on : (before read at : ℕ) (p : Pins) → at < 16
+      → word_from before read (word_rest at p)
+      ≡ word_from (or_else before (word_bit at p).refusal) (read + digit (word_bit at p).bit * 2 ^ (15 - at)) (word_rest (at + 1) (word_bit at p).pins)
+  unfolding word_rest word_bit
+  word-goes-on before read at p more =
+      let c : Clocked = bit_across d (k * 16 + at) p memory (eqb (word / 2 ^ (15 - at) % 2) 1) in
+      let left : 16 - at ≡ suc (15 - at) = omega arith in
+      let less : 15 - at ≡ 16 - (at + 1) = omega arith in
+      let next : suc (k * 16 + at) ≡ k * 16 + (at + 1) = omega arith in
+      ap (λ (n : ℕ). word_from before read (line_across d (k * 16 + at) p memory (bits n word))) left
+      ∙ word-next before read (15 - at) (k * 16 + at) p
+      ∙ ap₂ (λ (n j : ℕ). word_from (or_else before c.refusal) (read + digit c.bit * 2 ^ (15 - at)) (line_across d j c.pins memory (bits n word))) less next
+
+  pub word-ends : (before read : ℕ) (p : Pins) → word_from before read (word_rest 16 p) ≡ record { card = before; pins = p; word = read }
   unfolding word_from word_rest bits line_across first_of number
   word-ends before read p = rw (or-else-none before, add-zero read)
 
   -- a word's bits make a word
-  pub word-fits : (before read left : ℕ) (p q : Pins) → word_across (line_across d (k * 16) q memory (bits 16 word)) ≡ word_from before read (word_rest left p)
-      → 0 < left → left ≤ 16 → read + digit (word_bit left p).bit * 2 ^ (left - 1) < 65536
+  pub word-fits : (before read at : ℕ) (p q : Pins) → word_across (line_across d (k * 16) q memory (bits 16 word)) ≡ word_from before read (word_rest at p)
+      → at < 16 → read + digit (word_bit at p).bit * 2 ^ (15 - at) < 65536
   unfolding word_across word_from
-  word-fits before read left p q e some few =
+  word-fits before read at p q e more =
       let line : List Bool = (line_across d (k * 16) q memory (bits 16 word)).sent in
       let long : length line ≡ 16 = length-across d memory (k * 16) q (bits 16 word) ∙ length-bits 16 word in
       let below : number line < 65536 = subst (λ (l : ℕ). number line < 2 ^ l) long (number-lt line) in
-      omega (arith, ap (λ (w : WordAcross). w.word) (e ∙ word-goes-on before read left p some few))
+      omega (arith, ap (λ (w : WordAcross). w.word) (e ∙ word-goes-on before read at p more))
 
 -- ---- the words of a message
 

@@ -1,2 +1,3 @@
+pub mod Answers
 pub mod Crossing
 pub mod Steps

@@ -18,7 +18,7 @@ use Rattle.rules.proofs.Cases.{by-test, by-number}
 use Rattle.token.proofs.Good.{both}
 use Rattle.loader.specs.Loader.{smallest, largest, is_size, load_goes, load_start_refusal, load_give_refusal, load_given}
 use Rattle.loader.specs.declared.Loader.{Loader}
-use Rattle.loader.specs.declared.LoadGiven.{LoadGiven}
+use Rattle.loader.specs.Answers.{LoadGiven}
 use Rattle.loader.proofs.StepLaws.{start-number, start-few, start-held, give-passed}
 use Rattle.listed.specs.Listed.{with_verdict, sizes, no_record, list_started, records_started, list_given, records_given}
 use Rattle.listed.specs.declared.CardRecord.{CardRecord}

@@ -4,3 +4,4 @@ pub mod LoadLaws
 pub mod Ranges
 pub mod Refusals
 pub mod Known
+pub mod Unique

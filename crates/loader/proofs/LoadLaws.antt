@@ -22,7 +22,7 @@ use Rattle.controller.specs.Sure.{readback_command, command_at, is_ask, is_give,
 use Rattle.controller.proofs.MessageLaws.{message-whole}
 use Rattle.loader.specs.Loader.{loader, block_words, block_at, load_goes, out_of_load, base_at, stage_command, stage_block, turn_block, load_turn, load_ask_refusal, load_asked, load_asked_buffer, last_block, next_card, next_stage, moved, noted, load_give_refusal, load_given}
 use Rattle.loader.specs.declared.Load.TheVariants.{NotYet, Loaded, Stopped}
-use Rattle.loader.specs.declared.LoadAsked.{LoadAsked}
+use Rattle.loader.specs.Answers.{LoadAsked}
 use Rattle.loader.specs.declared.Loader.{Loader}
 use Rattle.loader.proofs.StateLaws.{Serving, serving-goes, serving-in-range}
 

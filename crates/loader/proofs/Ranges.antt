@@ -13,9 +13,9 @@ use Rattle.rules.proofs.Cases.{by-test, by-number}
 use Rattle.token.specs.declared.command.Command.{Command}
 use Rattle.controller.specs.Sure.{is_ask, passes, confirms, turn_after}
 use Rattle.loader.specs.Loader.{loader, block_words, out_of_load, stage_command, load_start_refusal, load_started, load_turn, load_ask_refusal, load_asked, last_block, next_card, next_stage, moved, load_give_refusal, load_given}
-use Rattle.loader.specs.declared.LoadAsked.{LoadAsked}
-use Rattle.loader.specs.declared.LoadGiven.{LoadGiven}
-use Rattle.loader.specs.declared.LoadStarted.{LoadStarted}
+use Rattle.loader.specs.Answers.{LoadAsked}
+use Rattle.loader.specs.Answers.{LoadGiven}
+use Rattle.loader.specs.Answers.{LoadStarted}
 use Rattle.loader.specs.declared.Loader.{Loader}
 use Rattle.loader.proofs.LoadLaws.{serving-turn, block-full}
 use Rattle.loader.proofs.StateLaws.{neither, Serving, serving, serving-in-range, over-in-range}

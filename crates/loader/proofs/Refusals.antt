@@ -10,12 +10,12 @@ use lib.ListN.{length}
 use Rattle.rules.specs.Refusals as refusal
 use Rattle.rules.proofs.Cases.{by-test, by-number, refused-second, refused-first}
 use Rattle.loader.specs.Loader.{loader, load_goes, out_of_load, load_start_refusal, load_started, card_now, all_over, load_ask_refusal, load_asked, load_asked_buffer, load_give_refusal, load_given}
-use Rattle.loader.specs.declared.AllOver.{AllOver}
-use Rattle.loader.specs.declared.CardNow.{CardNow}
+use Rattle.loader.specs.Answers.{AllOver}
+use Rattle.loader.specs.Answers.{CardNow}
 use Rattle.loader.specs.declared.Load.TheVariants.{NotYet}
-use Rattle.loader.specs.declared.LoadAsked.{LoadAsked}
-use Rattle.loader.specs.declared.LoadGiven.{LoadGiven}
-use Rattle.loader.specs.declared.LoadStarted.{LoadStarted}
+use Rattle.loader.specs.Answers.{LoadAsked}
+use Rattle.loader.specs.Answers.{LoadGiven}
+use Rattle.loader.specs.Answers.{LoadStarted}
 use Rattle.loader.specs.declared.Loader.{Loader}
 
 abbrev NumberAlone : LoadStarted → Type 0
