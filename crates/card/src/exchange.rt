@@ -13,7 +13,7 @@ use crate::Note;
 use rules::Name;
 use rules::refusal::Refusal;
 use token::command::{Command, CommandToken};
-use token::response::{Response, ResponseToken, any_set};
+use token::response::{Response, ResponseToken};
 
 /// Word k of READ's answer.
 #[tactic(auto, unfolding(crate::specs::Exchange::read_word))]
@@ -86,7 +86,7 @@ impl Card {
         {
             return 0;
         }
-        if any_set(judge::token_status(self.size, self.bases, token)) {
+        if judge::token_status(self.size, self.bases, token).any_set() {
             return 0;
         }
         self.passed_word(memory, fields, k)

@@ -12,7 +12,7 @@ use judge::Bases;
 use rules::Name;
 use rules::refusal::Refusal;
 use token::command::Command;
-use token::response::{Status, any_set};
+use token::response::Status;
 
 // ---- effects
 
@@ -170,7 +170,7 @@ impl Card {
             return;
         }
         let status = self.judged_status(left);
-        if any_set(status) {
+        if status.any_set() {
             self.note(status);
             return;
         }
@@ -199,7 +199,7 @@ impl Card {
         if self.release_refusal(size, left).is_err() {
             return false;
         }
-        !self.is_silent(left) & !any_set(self.judged_status(left))
+        !self.is_silent(left) & !self.judged_status(left).any_set()
     }
 
     /// Ends the message, with up to 15 bits of an unfinished word left over: judges it, and acts where it is accepted: State, Size,
