@@ -16,7 +16,7 @@ use Rattle.token.proofs.Good.{both}
 use Rattle.controller.specs.Base.{base_block}
 use Rattle.controller.specs.Builder.{build_refusal, message_built, buffer_after}
 use Rattle.controller.specs.Sure.{command_at, is_ask, is_give}
-use Rattle.controller.specs.declared.MessageBuilt.{MessageBuilt}
+use Rattle.controller.specs.Answers.{MessageBuilt}
 use Rattle.loader.specs.Loader.{block_words, load_goes, out_of_load, base_at, stage_command, stage_block, turn_block, is_size, load_start_refusal, load_started, load_turn, load_ask_refusal, load_asked, load_asked_buffer, load_give_refusal}
 use Rattle.loader.specs.Answers.{LoadStarted}
 use Rattle.loader.specs.declared.Loader.{Loader}
