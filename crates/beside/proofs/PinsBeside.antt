@@ -14,16 +14,16 @@ use Rattle.card.specs.Card.{selected}
 use Rattle.card.specs.Release.{released, memory_after}
 use Rattle.card.specs.State.{emptied}
 use Rattle.card.specs.declared.Card.{Card}
-use Rattle.card.specs.declared.CardAfter.{CardAfter}
+use Rattle.card.specs.Answers.{CardAfter}
 use Rattle.card.specs.declared.Message.{Message}
 use Rattle.card.proofs.Holding.{Idle}
 use Rattle.card.proofs.Refusals.{released-number}
 use Rattle.shifter.specs.Shifter.{cleared, left_over}
-use Rattle.shifter.specs.declared.LeftOver.{LeftOver}
+use Rattle.shifter.specs.Answers.{LeftOver}
 use Rattle.shifter.specs.declared.Shifter.{Shifter}
 use Rattle.pins.specs.Pins.{pins_of, shifter_refusal, behind_shifter, selected_pins, released_pins, memory_after_pins}
 use Rattle.pins.specs.declared.Pins.{Pins}
-use Rattle.pins.specs.declared.PinsAfter.{PinsAfter}
+use Rattle.pins.specs.Answers.{PinsAfter}
 use Rattle.delivery.proofs.Kept.{Like, like-same}
 use Rattle.two_ports.specs.Ports.{module_ports, selected_ports, ports_word_refusal, released_ports, memory_after_ports}
 use Rattle.two_ports.specs.State.{is_port, seen_from, view, view_from}
@@ -37,7 +37,7 @@ use Rattle.two_pins.specs.PortPins.{port_pins_of, pins_from, view_pins, behind_s
 use Rattle.two_pins.specs.Run as run
 use Rattle.two_pins.specs.Run.{RunPortPins}
 use Rattle.two_pins.specs.declared.PortPins.{PortPins}
-use Rattle.two_pins.specs.declared.PortPinsAfter.{PortPinsAfter}
+use Rattle.two_pins.specs.Answers.{PortPinsAfter}
 use Rattle.two_pins.proofs.Clock.{pins-ports, pins-twice, clock-has, clock-sees, clock-sends, clock-number, clock-far}
 use Rattle.two_pins.proofs.Run.{Shifters, shifters-from, run-port-pins}
 use Rattle.beside.specs.Beside.{excluded, any_in, Holds, happens}

@@ -19,9 +19,9 @@ use Rattle.card.specs.Exchange.{fields, told, took}
 use Rattle.card.specs.State as card
 use Rattle.card.specs.State.{emptied}
 use Rattle.card.specs.declared.Card.{Card}
-use Rattle.card.specs.declared.CardAfter.{CardAfter}
+use Rattle.card.specs.Answers.{CardAfter}
 use Rattle.card.specs.declared.Message.{Message}
-use Rattle.card.specs.declared.Told.{Told}
+use Rattle.card.specs.Answers.{Told}
 use Rattle.card.proofs.Holding.{Idle}
 use Rattle.card.proofs.Laws.{InRange}
 use Rattle.card.proofs.Sound.{not-out}

@@ -151,7 +151,8 @@ impl Card {
         ensures refused { OnErr result (self.new ≡ self.old) }
         ensures number { refusal_of result ≡ word_refusal self.old (length memory.now) }
     {
-        self.word_refusal(memory.len())?;
+        let size = memory.len();
+        self.word_refusal(size)?;
         let word = self.next_word(memory);
         self.port.message.note = Note { told: true, word };
         Ok(word)

@@ -1,5 +1,5 @@
 // What a released message does: it is judged, and where it is accepted its command acts.
-ghost use Rattle.std.specs.Prelude.{◌≡◌, ◌+◌, ◌*◌, ◌^◌, ◌≤◌, length, OnOk, OnErr, if◌then◌else◌, nat_eq};
+ghost use Rattle.std.specs.Prelude.{◌≡◌, ◌+◌, ◌^◌, ◌≤◌, length, OnOk, OnErr, if◌then◌else◌, nat_eq};
 ghost use Rattle.judge.specs.Judge.{word_place};
 ghost use Rattle.rules.specs.Refusal.{refusal_of};
 ghost use Rattle.rules.specs.Rules.{tick, write};
@@ -30,13 +30,13 @@ pub fn bases_after(bases: Bases, code: u8, value: u32) -> Bases
     if rules::is_command(code, Name::ConfigWrite) {
         return Bases {
             write_base: value,
-            read_base: bases.read_base,
+            ..bases
         };
     }
     if rules::is_command(code, Name::ConfigRead) {
         return Bases {
-            write_base: bases.write_base,
             read_base: value,
+            ..bases
         };
     }
     bases
@@ -73,12 +73,6 @@ fn put(memory: &mut [u16], place: usize, block: &[u16])
     memory[place..place + block.len()].copy_from_slice(block);
 }
 
-fn joined(high: u16, low: u16) -> u32
-    ensures { result ≡ high * 65536 + low }
-{
-    high as u32 * 65536 + low as u32
-}
-
 // ---- the message
 
 impl Card {
@@ -87,7 +81,7 @@ impl Card {
         ensures { result ≡ first32 self.now }
     {
         let words = &self.port.message.words;
-        joined(words[2], words[3])
+        u32::from(words[2]) * 65536 + u32::from(words[3])
     }
 
     /// The payload's first four words as 64 bits, the first highest.
@@ -95,7 +89,7 @@ impl Card {
         ensures { result ≡ first64 self.now }
     {
         let words = &self.port.message.words;
-        (self.first32_of() as u64 * 65536 + words[4] as u64) * 65536 + words[5] as u64
+        (u64::from(self.first32_of()) * 65536 + u64::from(words[4])) * 65536 + u64::from(words[5])
     }
 
     #[tactic(auto, unfolding(crate::specs::Release::silent))]

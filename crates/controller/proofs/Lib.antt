@@ -4,3 +4,4 @@ pub mod MessageLaws
 pub mod Numbers
 pub mod Refusals
 pub mod TurnLaws
+pub mod Unique

@@ -2,7 +2,6 @@
 use Rattle.std.specs.Prelude.{ℕ, Result, MatchResult, ◌≡◌, ◌<◌}
 use Rattle.rules.specs.declared.refusal.Refusal.{Refusal}
 use Rattle.rules.specs.declared.refusal.Refusal.TheVariants.{State}
-use Rattle.controller.specs.declared.turn.Message.{Message}
 use Rattle.controller.specs.declared.turn.Message.TheVariants.{First, Command, Last}
 use Rattle.controller.specs.declared.turn.Turn.{Turn}
 use Rattle.controller.specs.declared.turn.Turn.TheVariants.{Ask, Give, Done, Unsure}

@@ -4,6 +4,7 @@ pub mod Factors
 pub mod Fours
 pub mod Linear
 pub mod Maps
+pub mod Ones
 pub mod Register
 pub mod Words
 pub mod Unique

@@ -19,8 +19,8 @@ use Rattle.judge.proofs.Laws.{never}
 use Rattle.card.specs.Whole.{listed, Hears}
 use Rattle.controller.specs.Builder.{is_reading, message, block_fits, build_refusal, buffer_after}
 use Rattle.controller.specs.Sure.{readback_command, command_at, is_ask, is_give, passes, turn_after, write_command, with_turn, sure, started, out_of_range, ask_refusal, asked, asked_buffer, give_refusal, given}
-use Rattle.controller.specs.declared.Asked.{Asked}
-use Rattle.controller.specs.declared.SureWrite.{SureWrite}
+use Rattle.controller.specs.Answers.{Asked}
+use Rattle.controller.specs.declared.sure.SureWrite.{SureWrite}
 use Rattle.controller.proofs.MessageLaws.{message-whole}
 use Rattle.delivery.specs.AnyCommand.{Fate, Fates, Course, leg, legs, sure_command}
 use Rattle.delivery.specs.Delivery.{Side, Room, sure_write}

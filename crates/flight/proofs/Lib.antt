@@ -1,4 +1,3 @@
 pub mod Apart
-pub mod Gives
 pub mod Trip
 pub mod Unique

@@ -14,8 +14,8 @@ use Rattle.bits.specs.Lines.{AreWords}
 use Rattle.rules.specs.Rules.{message_words}
 use Rattle.rules.proofs.Cases.{by-test}
 use Rattle.token.specs.declared.command.Command.{Command}
-use Rattle.controller.specs.declared.Verdict.{Verdict}
-use Rattle.controller.specs.declared.Verdict.TheVariants as verdict
+use Rattle.controller.specs.declared.sure.Verdict.{Verdict}
+use Rattle.controller.specs.declared.sure.Verdict.TheVariants as verdict
 use Rattle.loader.specs.Loader.{block_words, block_at, stage_command}
 use Rattle.loader.specs.declared.Loader.{Loader}
 use Rattle.loading.specs.Loading.{longest, loaded_to, all_done, first_unsure}
@@ -29,7 +29,6 @@ unsure-not-all [] = refl
 unsure-not-all (verdict.Done ∷ before) = unsure-not-all before
 unsure-not-all (verdict.Unsure ∷ before) = refl
 unsure-not-all (verdict.NotYet ∷ before) = refl
-unsure-not-all (verdict.State ∷ before) = refl
 
 -- some were Done so far: then one is Unsure, or one more is Done
 module _ {verdicts : List Verdict} (n m : ℕ) (so_far : verdicts ≡ replicate n verdict.Done) where

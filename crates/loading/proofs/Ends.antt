@@ -9,7 +9,7 @@ use mathlib.Core.List.{List, [], ◌∷◌, ◌++◌, append-nil}
 use lib.ListN.{length, drop, replicate}
 use lib.Seq.{take-length}
 use Rattle.judge.proofs.Laws.{never}
-use Rattle.controller.specs.declared.Verdict.TheVariants as verdict
+use Rattle.controller.specs.declared.sure.Verdict.TheVariants as verdict
 use Rattle.loader.specs.Loader.{load_gives, block_words, loader, last_block, next_card, next_stage, moved, noted}
 use Rattle.loader.specs.declared.Load.TheVariants.{Loaded, Stopped}
 use Rattle.loader.specs.declared.Loader.{Loader}

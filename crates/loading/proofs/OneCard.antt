@@ -16,7 +16,7 @@ use Rattle.judge.specs.declared.Bases.{Bases}
 use Rattle.judge.proofs.Laws.{doubled}
 use Rattle.controller.specs.Base.{base_command, base_block}
 use Rattle.controller.specs.Sure.{done_at}
-use Rattle.controller.specs.declared.Verdict.TheVariants as verdict
+use Rattle.controller.specs.declared.sure.Verdict.TheVariants as verdict
 use Rattle.loader.specs.Loader.{load_gives, block_words, block_at, loader, base_at, stage_command, stage_block, last_block}
 use Rattle.loader.specs.declared.Load.{Load}
 use Rattle.loader.specs.declared.Load.TheVariants.{NotYet, Loaded, Stopped}

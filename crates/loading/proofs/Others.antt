@@ -8,8 +8,8 @@ use lib.ListN.{length, take, drop, get_or}
 use Rattle.rules.specs.Refusals as refusal
 use Rattle.rules.proofs.Cases.{by-test, by-number}
 use Rattle.loader.specs.Loader.{out_of_load, load_goes, card_now, load_ask_refusal, load_asked}
-use Rattle.loader.specs.declared.CardNow.{CardNow}
-use Rattle.loader.specs.declared.LoadAsked.{LoadAsked}
+use Rattle.loader.specs.Answers.{CardNow}
+use Rattle.loader.specs.Answers.{LoadAsked}
 use Rattle.loader.specs.declared.Loader.{Loader}
 use Rattle.listed.specs.Listed.{no_record}
 use Rattle.listed.proofs.ListLaws.{length-given, others-given}

@@ -19,7 +19,7 @@ use Rattle.token.specs.declared.command.Command.{Command}
 use Rattle.card.specs.Whole.{listed}
 use Rattle.controller.specs.Builder.{message}
 use Rattle.controller.specs.Sure.{passes, turn_after}
-use Rattle.controller.specs.declared.Verdict.{Verdict}
+use Rattle.controller.specs.declared.sure.Verdict.{Verdict}
 use Rattle.loader.specs.Loader.{stage_command, stage_block, card_now, all_over, load_turn, moved, noted}
 use Rattle.loader.specs.declared.Load.{Load}
 use Rattle.loader.specs.declared.Load.TheVariants.{NotYet}

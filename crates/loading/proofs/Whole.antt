@@ -12,7 +12,7 @@ use Rattle.bits.specs.Lines.{AreWords}
 use Rattle.rules.specs.Refusals as refusal
 use Rattle.card.specs.Whole.{listed}
 use Rattle.loader.specs.Loader.{loader, all_over, smallest, largest, load_start_refusal, load_started}
-use Rattle.loader.specs.declared.AllOver.{AllOver}
+use Rattle.loader.specs.Answers.{AllOver}
 use Rattle.loader.specs.declared.Load.{Load}
 use Rattle.loader.specs.declared.Load.TheVariants.{NotYet, Loaded}
 use Rattle.loader.specs.declared.Loader.{Loader}

@@ -1,3 +1,4 @@
 pub mod Pinned
 pub mod Refusals
 pub mod Run
+pub mod Unique

@@ -15,12 +15,12 @@ use Rattle.card.specs.Exchange.{exchanged}
 use Rattle.card.specs.Release.{released}
 use Rattle.card.proofs.Refusals.{selected-refused, module-refused, exchanged-refused, released-refused, memory-refused}
 use Rattle.text.specs.Kinds as kind
-use Rattle.text.specs.Lines.{line_gives}
+use Rattle.text.specs.Lines.{Shown, line_gives}
 use Rattle.text.specs.declared.Line.{Line}
 use Rattle.text.specs.declared.Line.TheVariants.{Selected, Taken, Released, ModuleSet}
 use Rattle.text.specs.declared.Record.{Record}
 use Rattle.replay.specs.Replay.{said, on_select, on_word, on_release, module_state, on_module, replayed, replayed_memory, play_refusal, played, played_memory, played_buffer}
-use Rattle.replay.specs.declared.Played.{Played}
+use Rattle.replay.specs.Answers.{Played}
 
 pub play-refused : (c : Card) (memory bytes buffer : List ℕ) → ((played c memory bytes (length buffer)).refusal ≡ refusal.none → ⊥)
     → ((played c memory bytes (length buffer)).card ≡ c) × ((played c memory bytes (length buffer)).written ≡ 0)
@@ -36,7 +36,7 @@ play-refused c memory bytes buffer h =
 said-refused : (number : ℕ) (c : Card) (line : Line) {A : Type 0} → (line_gives line).refusal ≡ refusal.none
     → ((number ≡ refusal.none → ⊥) → A) → ((said number c line).line.refusal ≡ refusal.none → ⊥) → A
 said-refused number c line {A} none law =
-    by-number (λ (l : Line). ((line_gives l).refusal ≡ refusal.none → ⊥) → A) number (λ n h. law n) (λ e h. absurd (h none))
+    by-number (λ (s : Shown). (s.refusal ≡ refusal.none → ⊥) → A) number (λ n h. law n) (λ e h. absurd (h none))
 
 module _ (c : Card) (memory : List ℕ) (r : Record) where
   Stays : Type 0

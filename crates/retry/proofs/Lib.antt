@@ -6,3 +6,5 @@ pub mod Reached
 pub mod Promises
 pub mod Refusals
 pub mod Known
+pub mod RoundCalls
+pub mod Unique

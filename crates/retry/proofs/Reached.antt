@@ -23,8 +23,8 @@ use Rattle.controller.specs.Sure.{readback_command, command_at, is_ask, is_give,
 use Rattle.retry.specs.Promises.{RoundsCall, ask, give, rounds_after, Led}
 use Rattle.retry.specs.Rounds.{rounds, may_start, rounds_started, out_of_rounds, counted, settled}
 use Rattle.retry.specs.declared.Rounds.{Rounds}
-use Rattle.retry.specs.declared.RoundsAsked.{RoundsAsked}
-use Rattle.retry.specs.declared.RoundsGiven.{RoundsGiven}
+use Rattle.retry.specs.Answers.{RoundsAsked}
+use Rattle.retry.specs.Answers.{RoundsGiven}
 use Rattle.retry.proofs.CallLaws.{asked-at, given-at}
 use Rattle.retry.proofs.StateLaws.{start-limits, repeats, Place, in-range, ranged-in}
 use Rattle.retry.proofs.WordLaws.{message-short}

@@ -19,8 +19,8 @@ use Rattle.controller.specs.Builder.{build_refusal}
 use Rattle.controller.specs.Sure.{command_at, is_ask, is_give, passes, confirms, turn_after}
 use Rattle.retry.specs.Rounds.{rounds, may_repeat, may_start, RoundsStart, no_rounds, rounds_started, ended_rounds, out_of_rounds, counted, settled, rounds_ask_refusal, rounds_asked, rounds_give_refusal, rounds_given, RoundsSaid, again_at, rounds_verdict}
 use Rattle.retry.specs.declared.Rounds.{Rounds}
-use Rattle.retry.specs.declared.RoundsAsked.{RoundsAsked}
-use Rattle.retry.specs.declared.RoundsGiven.{RoundsGiven}
+use Rattle.retry.specs.Answers.{RoundsAsked}
+use Rattle.retry.specs.Answers.{RoundsGiven}
 
 never : {A : Type 0} → true ≡ false → A
 never h = absurd (true≢false h)

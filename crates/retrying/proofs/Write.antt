@@ -13,7 +13,7 @@ use Rattle.rules.specs.Refusals as refusal
 use Rattle.token.specs.declared.command.Command.{Command}
 use Rattle.card.specs.Whole.{listed}
 use Rattle.controller.specs.Builder.{is_reading, block_fits}
-use Rattle.controller.specs.declared.SureWrite.{SureWrite}
+use Rattle.controller.specs.declared.sure.SureWrite.{SureWrite}
 use Rattle.retry.specs.Rounds.{rounds, may_repeat, may_start, RoundsStart, rounds_started, sure_rounds, short_rounds, rounds_verdict}
 use Rattle.retry.proofs.OneRound.{settled-one}
 use Rattle.retry.proofs.StateLaws.{start-is, start-in}

@@ -13,13 +13,13 @@ use Rattle.judge.proofs.Laws.{never}
 use Rattle.card.specs.Card.{word_refusal}
 use Rattle.card.specs.Exchange.{told, took, with_told}
 use Rattle.card.specs.declared.Card.{Card}
-use Rattle.card.specs.declared.Told.{Told}
+use Rattle.card.specs.Answers.{Told}
 use Rattle.card.proofs.Cases.{told-quiet, told-refusal}
 use Rattle.shifter.specs.Shifter.{step, left_over}
-use Rattle.shifter.specs.declared.Sent.{Sent}
+use Rattle.shifter.specs.Answers.{Sent}
 use Rattle.shifter.specs.declared.Shifter.{Shifter}
 use Rattle.pins.specs.Pins.{pins_of, shifter_refusal, behind_shifter, told_first, took_last, clocked}
-use Rattle.pins.specs.declared.Clocked.{Clocked}
+use Rattle.pins.specs.Answers.{Clocked}
 use Rattle.pins.specs.declared.Pins.{Pins}
 use Rattle.pins.proofs.Run.{clocked-in-range}
 use Rattle.two_ports.specs.Ports.{tell_near, take_near, ports_word_refusal, told_ports, took_ports}

@@ -6,3 +6,4 @@ pub mod Order
 pub mod Ranges
 pub mod Refusals
 pub mod Run
+pub mod Unique

@@ -12,13 +12,13 @@ use Rattle.rules.specs.Refusals as refusal
 use Rattle.rules.proofs.Cases.{by-test, by-number}
 use Rattle.card.specs.Card.{gives_card, selected, word_refusal}
 use Rattle.card.specs.declared.Card.{Card}
-use Rattle.card.specs.declared.CardAfter.{CardAfter}
+use Rattle.card.specs.Answers.{CardAfter}
 use Rattle.shifter.specs.Shifter.{cleared, left_over}
 use Rattle.shifter.specs.declared.Shifter.{Shifter}
 use Rattle.pins.specs.Pins.{pins_of, gives_pins, shifter_refusal, behind_shifter, answered, powered_pins, module_pins, selected_pins, clocked, released_pins, memory_after_pins}
-use Rattle.pins.specs.declared.Clocked.{Clocked}
+use Rattle.pins.specs.Answers.{Clocked}
 use Rattle.pins.specs.declared.Pins.{Pins}
-use Rattle.pins.specs.declared.PinsAfter.{PinsAfter}
+use Rattle.pins.specs.Answers.{PinsAfter}
 use Rattle.two_ports.specs.OnePort as card
 use Rattle.two_ports.specs.OnePort.{seen_after, OneCall, Given, one_answer, port_answer}
 use Rattle.two_ports.specs.Ports.{powered_ports, module_ports, selected_ports, ports_word_refusal, released_ports}

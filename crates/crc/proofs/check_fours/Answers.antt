@@ -30,7 +30,7 @@ loop-k-preserved g c =
     let further : at.k * 4 + 4 ≡ (at.k + 1) * 4 = omega arith in (
       next.ensures.0,
       subst (λ (n : ℕ). Leaves (take n words) next.result (bit_xor at.sum four.result)) further
-      (leaves-more words (at.k * 4) there four.result read at.rest at.sum next.result at.invariant.1 next.ensures.1),
+          (leaves-more words (at.k * 4) there four.result read at.rest at.sum next.result at.invariant.1 next.ensures.1),
     )
 
 pub returns : goal.returns

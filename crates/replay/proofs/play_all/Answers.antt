@@ -1,40 +1,36 @@
--- `replay::play_all` meets its contract. The loop's invariant: the text of the lines done is the buffer's front, and what is left to
--- do is a trace of what is left.
-use borrow.Author.Rules.{rules}
-use Prim.Native.Nat.{◌+◌, ◌*◌, ◌/◌, ◌≤◌, ◌<◌}
-use native.Mathlib.Omega.{arith}
-use mathlib.Core.Path.{◌≡◌, refl, ap, ◌∙◌}
-use lib.ListN.{length}
+-- The loop's invariant: the text of the lines done is the buffer's front, and what is left to do is a trace of what is left.
+use Rattle.std.proofs.Common.{◌≡◌, ◌+◌, ◌≤◌, ◌<◌, List, [], map, get_or, length, refl, sym, ap, ◌∙◌, arith}
+use Rattle.std.proofs.lemmas.List.{get_or-map}
+use Rattle.text.specs.Records.{record_of_bytes, records_of}
+use Rattle.text.specs.declared.Record.{Record}
 use Rattle.text.specs.Text.{longest}
-use Rattle.text.proofs.Records.{record-count}
-use Rattle.replay.specs.Replay.{replayed, replayed_gives, replayed_memory}
-use Rattle.replay.proofs.Going.{going-start, going-next, going-done, going-written, going-over}
+use Rattle.text.proofs.Records.{record-count, record-chunks}
+use Rattle.replay.proofs.Going.{going-start, going-next, going-done, going-written, going-over, never-refused}
 use Rattle.replay.proofs.play_all.Goals as goal
-use Rattle.replay.proofs.play_all.Goals.{At-loop-k}
 
--- there is room for the lines that are left
-room : (m : At-loop-k) → length m.args.bytes.now / 4 * longest ≤ length m.loop-k.buffer
-room m = omega (arith, m.requires, record-count m.args.bytes.now, m.loop-k.invariant.2)
+pub loop-next-init : goal.loop-next-init
+loop-next-init c = going-start c.args.card.now c.args.memory.now (records_of c.args.bytes.now) c.args.buffer.now
 
-pub loop-k-init : goal.loop-k-init
-loop-k-init c =
-    (omega arith, refl, refl, going-start c.args.card c.args.memory.now c.args.bytes.now c.args.buffer.now)
+pub returns-in_err-end : goal.returns-in_err-end
+returns-in_err-end c =
+    let room : c.loop-next.end + longest ≤ length c.loop-next.buffer = omega (arith, record-count c.args.bytes.now) in
+    absurd (never-refused c.in_err-end.field-0.0 _ _ _ room c.in_err-end.ensures.answer)
 
-pub loop-k-preserved : goal.loop-k-preserved
-loop-k-preserved c =
-    let g = c.loop-k.invariant.3 in
-    let same = c.record_of-record.ensures in
-    let played = c.replay-replayed.ensures.result_value ∙ ap (replayed c.loop-k.state c.loop-k.memory) same in
-    let left = c.replay-replayed.ensures.memory_after ∙ ap (replayed_memory c.loop-k.state c.loop-k.memory) same in
-    let less : c.loop-k.k < length c.args.bytes.now / 4 = omega (arith, c.loop-k-test) in
-    let space : c.loop-k.place + longest ≤ length c.loop-k.buffer = omega (arith, room (goal.at.loop-k-preserved c).At-loop-k, g.low) in
-    let next = going-next g (replayed_gives c.replay-replayed.result) _ _ _ less space played left c.put_line-place.ensures.value c.put_line-place.ensures.buffer_after in
-    (omega (arith, less), search rules, search rules, next)
+pub loop-next-preserved : goal.loop-next-preserved
+loop-next-preserved c =
+    let room : c.loop-next.end + longest ≤ length c.loop-next.buffer = omega (arith, record-count c.args.bytes.now) in
+    let less : c.loop-next.next-index < length (records_of c.args.bytes.now) = omega (arith, record-count c.args.bytes.now) in
+    let fours = c.as_chunks.result.0.now in
+    let same : records_of c.args.bytes.now ≡ map record_of_bytes fours
+    = record-chunks _ c.args.bytes.now refl ∙ ap (map record_of_bytes) (sym c.as_chunks.ensures.front) in
+    let r = c.from.result in
+    let this = ap (λ (l : List Record). get_or l c.loop-next.next-index r) same ∙ get_or-map record_of_bytes fours _ [] r c.loop-next-test.true ∙ sym c.from.ensures in
+    let played = c.replay-line.ensures in
+    going-next c.loop-next.invariant r less this _ _ _ _ _ room played.after played.line played.memory_after c.in_ok-end.ensures.behind c.put_line.ensures.buffer_after
 
 pub returns : goal.returns
 returns c =
-    let g = c.loop-k.invariant.3 in
-    let all : c.loop-k.k ≡ length c.args.bytes.now / 4 = omega arith in
-    let inside : c.loop-k.place ≤ length c.loop-k.buffer = omega (arith, room (goal.at.returns c).At-loop-k, g.low) in
-    let done = going-done g all inside in
-    rw done (record { value = rw (← going-written g all inside); memory_after = refl; buffer_after = going-over g all inside })
+    let g = c.loop-next.invariant in
+    let all : c.loop-next.next-index ≡ length (records_of c.args.bytes.now) = omega (arith, record-count c.args.bytes.now) in
+    let inside : c.loop-next.end ≤ length c.loop-next.buffer = omega (arith, record-count c.args.bytes.now) in
+    rw (going-done g all inside) (record { done = going-written g all inside; never = refl; after = refl; memory_after = refl; buffer_after = going-over g all inside })

@@ -1,6 +1,6 @@
 -- `builder::build_from_token` meets its contract: one that is not refused has a block that fits, and room.
 use native.Mathlib.Omega.{arith}
-use mathlib.Core.Path.{◌≡◌, sym, ◌∙◌}
+use mathlib.Core.Path.{sym, ◌∙◌}
 use lib.ListN.{length}
 use Rattle.controller.proofs.MessageLaws.{message-whole, build-passed}
 use Rattle.controller.proofs.builder.build_from_token.Goals as goal

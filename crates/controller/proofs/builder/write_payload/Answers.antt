@@ -1,6 +1,5 @@
 -- `builder::write_payload` meets its contract: the test says which case holds.
-use Prim.Native.Nat.{ℕ, ◌-◌}
-use native.Mathlib.Omega.{arith}
+use Prim.Native.Nat.{◌-◌}
 use mathlib.Core.Path.{◌≡◌, sym, ap, ◌∙◌}
 use lib.ListN.{length, replicate, length-replicate}
 use Rattle.rules.specs.Rules.{message_words}

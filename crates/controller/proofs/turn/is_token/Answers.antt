@@ -1,7 +1,5 @@
 -- `turn::is_token` meets its contract: a command that fits has a token, which is compared, and another has none.
-use mathlib.Core.Bool.{true}
-use mathlib.Core.Path.{◌≡◌, ◌∙◌}
-use Rattle.token.specs.Command.{command_token, command_fits}
+use mathlib.Core.Path.{◌∙◌}
 use Rattle.controller.specs.Sure.{is_token}
 use Rattle.controller.proofs.MessageLaws.{token-built, token-not-built}
 use Rattle.controller.proofs.turn.is_token.Goals as goal

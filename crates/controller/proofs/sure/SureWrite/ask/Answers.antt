@@ -1,10 +1,10 @@
 -- `sure::SureWrite::ask` meets its contract: in turn it is refused as the builder refuses, and else the message is built.
-use mathlib.Core.Path.{◌≡◌, refl, sym, ap, ◌∙◌}
+use mathlib.Core.Path.{◌≡◌, refl, sym, ◌∙◌}
 use borrow.Author.Rules.{rules}
 use lib.ListN.{length}
 use Rattle.rules.specs.Refusals as refusal
 use Rattle.rules.specs.Refusal.{number_of}
-use Rattle.controller.specs.Answers.{MessageBuilt, Asked}
+use Rattle.controller.specs.Answers.{MessageBuilt}
 use Rattle.controller.specs.Builder.{message_built}
 use Rattle.controller.specs.Sure.{command_at, with_turn, asked, asked_buffer, ask_refusal}
 use Rattle.controller.specs.Turns.{number_of_turn}

@@ -1,9 +1,8 @@
 -- `sure::SureWrite::give` meets its contract: in turn, the number of words says which case holds.
-use mathlib.Core.Path.{◌≡◌, refl, sym, ap, ◌∙◌}
+use mathlib.Core.Path.{◌≡◌, refl}
 use borrow.Author.Rules.{rules}
 use Rattle.rules.specs.Refusals as refusal
 use Rattle.rules.specs.Refusal.{number_of}
-use Rattle.controller.specs.Answers.{Given}
 use Rattle.controller.specs.Sure.{with_turn, turn_after, given, give_refusal}
 use Rattle.controller.specs.Turns.{number_of_turn}
 use Rattle.controller.specs.declared.turn.Turn.TheVariants.{Give}

@@ -1,2 +1,0 @@
-pub mod RoundCalls
-pub mod Unique
