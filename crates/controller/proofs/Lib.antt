@@ -3,5 +3,4 @@ pub mod Known
 pub mod MessageLaws
 pub mod Numbers
 pub mod Refusals
-pub mod TurnLaws
 pub mod Unique
