@@ -132,3 +132,7 @@ token-built f r t made is = built-by (command_fits f) t (command_token f) (ap co
 -- it has the fields that it was built from
 pub built-fields : (f : Command) (t : CommandToken) → command_fits f ≡ true → t ≡ command_token f → command_fields t.first t.second ≡ f
 built-fields f t fits made = rw made (command-fields f fits)
+
+pub ruleset blocks = (block-length, no-words, one-word)
+
+pub ruleset laying = (message-laid, message-whole)

@@ -47,6 +47,7 @@ fn words_in(fields: Command, count: usize, room: usize) -> Result<usize, Refusal
 }
 
 // A block and its check word, over the whole of a part. An empty block has neither.
+#[tactic(auto, using(crate::proofs::MessageLaws::blocks), unfolding(crate::specs::Builder::with_check_word))]
 fn write_block(part: &mut [u16], block: &[u16])
     requires { length part.old ≡ length (with_check_word block.now) }
     ensures { part.new ≡ with_check_word block.now }
@@ -60,6 +61,7 @@ fn write_block(part: &mut [u16], block: &[u16])
 }
 
 // A command's payload, with its check word, over the whole of a part.
+#[tactic(auto, unfolding(crate::specs::Builder::payload))]
 fn write_payload(part: &mut [u16], fields: Command, block: &[u16])
     requires { length part.old ≡ length (payload fields block.now) }
     ensures { part.new ≡ payload fields block.now }
@@ -73,6 +75,7 @@ fn write_payload(part: &mut [u16], fields: Command, block: &[u16])
 
 // A message of so many words over a buffer's first places: the token, and the payload from the third place on, for which that part of
 // the buffer is lent on.
+#[tactic(auto, using(crate::proofs::MessageLaws::laying), unfolding(crate::specs::Builder::message))]
 fn write_message(
     buffer: &mut [u16],
     token: CommandToken,
