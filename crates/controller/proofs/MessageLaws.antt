@@ -15,6 +15,7 @@ use Rattle.rules.specs.Refusals as refusal
 use Rattle.rules.specs.Rules.{message_words}
 use Rattle.rules.specs.declared.refusal.Refusal.{Refusal}
 use Rattle.rules.specs.declared.refusal.Refusal.TheVariants.{Argument}
+use Rattle.rules.proofs.OneAnswer.{some-number}
 use Rattle.std.specs.Prelude.{Result, Ok, Err}
 use Rattle.token.proofs.CommandTrip.{command-fields}
 use Rattle.token.proofs.Good.{both}
@@ -136,3 +137,5 @@ built-fields f t fits made = rw made (command-fields f fits)
 pub ruleset blocks = (block-length, no-words, one-word)
 
 pub ruleset laying = (message-laid, message-whole)
+
+pub ruleset building = (some-number, eq-eqb, ne_eqb, message-whole, build-passed, token-built, built-fields)
