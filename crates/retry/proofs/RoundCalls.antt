@@ -10,7 +10,7 @@ use Rattle.token.proofs.CommandTrip.{limits}
 use Rattle.retry.specs.Rounds.{may_start, out_of_rounds, laid_out}
 use Rattle.retry.specs.declared.Rounds.{Rounds}
 use Rattle.retry.proofs.StateLaws.{start-limits, repeats, in-range}
-use Rattle.retry.proofs.WordLaws.{laid-most}
+use Rattle.retry.proofs.WordLaws.{laid-most, message-short}
 
 -- ---- ranges
 
@@ -34,3 +34,5 @@ module _ (s : Rounds) (inside : out_of_rounds s ≡ false) where
       let low = small s.command s.most (in-range s inside).starts in
       let all : s.most * (s.command.length + 13) ≤ 8 * (s.command.length + 13) = mul-le-mul_right (s.command.length + 13) low.few in
       omega (arith, laid-most s inside, all, low.length)
+
+pub ruleset words = (laid-few, message-short)
