@@ -5,3 +5,4 @@ pub mod Places
 pub mod Refusals
 pub mod Turns
 pub mod Undamaged
+pub mod Unique
