@@ -9,6 +9,7 @@ use Rattle.text.specs.Lines.{Shown, line_gives}
 use Rattle.text.specs.declared.Line.{Line}
 use Rattle.text.specs.declared.Line.TheVariants.{Selected, Taken, Released, ModuleSet, Refused}
 use Rattle.text.proofs.hex_word.Reads as hex-word
+use Rattle.text.proofs.kind.KindTryFromU8.try_from.Reads as kind-from
 use Rattle.text.proofs.put_line.Reads as put-line
 use Rattle.text.proofs.put_port_line.Reads as put-port-line
 use Rattle.text.proofs.RecordFromArrayU8RECORDBYTES.from.Reads as record-from
@@ -36,6 +37,9 @@ one-line l m e = sym (back l) ∙ ap line_of e ∙ back m
 
 pub one-record-from : (κs : _) (a : _) (r s : _) (e f : _) → record-from.Post κs a r e → record-from.Post κs a s f → r ≡ s
 one-record-from κs a r s e f p q = p ∙ sym q
+
+pub one-kind : (κs : _) (a : _) (r s : _) (e f : _) → kind-from.Post κs a r e → kind-from.Post κs a s f → r ≡ s
+one-kind κs a r s e f p q = p ∙ sym q
 
 pub one-hex-word : (κs : _) (a : _) (r s : _) (e f : _) → hex-word.Post κs a r e → hex-word.Post κs a s f → r ≡ s
 one-hex-word κs a r s e f p q = p ∙ sym q
