@@ -3,7 +3,7 @@
 use mathlib.Core.Bool.{cond}
 use mathlib.Core.Path.{◌≡◌, refl, sym, ap, ◌∙◌}
 use lib.Dec.{eqb}
-use Rattle.rules.proofs.OneAnswer.{with_number, with-own-number, same-value}
+use Rattle.rules.proofs.OneAnswer.{same-value}
 use Rattle.text.specs.Letters as letter
 use Rattle.text.specs.Lines.{Shown, line_gives}
 use Rattle.text.specs.declared.Line.{Line}
@@ -22,7 +22,7 @@ line_of s =
     (cond (eqb s.letter letter.capital_w) (Taken s.word s.sent)
     (cond (eqb s.letter letter.capital_r) (Released s.status)
     (cond (eqb s.letter letter.capital_m) ModuleSet
-    (Refused (with_number s.refusal)))))
+    (Refused s.refusal))))
 
 back : (line : Line) → line_of (line_gives line) ≡ line
 unfolding line_of
@@ -30,7 +30,7 @@ back Selected = refl
 back (Taken word sent) = refl
 back (Released bits) = refl
 back ModuleSet = refl
-back (Refused r) = ap Refused (with-own-number r)
+back (Refused number) = refl
 
 pub one-line : (l m : Line) → line_gives l ≡ line_gives m → l ≡ m
 one-line l m e = sym (back l) ∙ ap line_of e ∙ back m

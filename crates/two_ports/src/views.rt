@@ -103,7 +103,7 @@ impl Ports {
 
     /// What a call on a port refuses: State comes first; then, for a port that there is, what the card that it sees answers.
     #[tactic(auto, unfolding(crate::specs::Ports::refusal_at, crate::specs::State::is_port))]
-    pub fn refusal_at(
+    pub(crate) fn refusal_at(
         &self,
         port: u8,
         size_fits: bool,
