@@ -69,7 +69,7 @@ same-reading (Err (Refused d)) (Err (Payload g)) h = absurd (true≢false (sym (
 same-reading (Err (Refused d)) (Err (Token v)) h = absurd (not-none d (sym (ap (λ (a : Answer). a.refusal) h)))
 
 pub one-read-answer : (κs : _) (a : _) (r s : _) (e f : _) → read_answer.Post κs a r e → read_answer.Post κs a s f → r ≡ s
-one-read-answer κs a r s e f p q = same-reading r s (p ∙ sym q)
+one-read-answer κs a r s e f p q = same-reading r s (p.0 ∙ sym q.0)
 
 pub one-payload-of : (κs : _) (a : _) (r s : _) (e f : _) → payload-of.Post κs a r e → payload-of.Post κs a s f → r.now ≡ s.now
 one-payload-of κs a r s e f p q = p ∙ sym q

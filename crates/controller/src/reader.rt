@@ -1,5 +1,7 @@
 //! Answers, read from the words that came back.
-ghost use Rattle.std.specs.Prelude.{◌≡◌};
+ghost use Rattle.std.specs.Prelude.{◌≡◌, true, false, IfOk, OnOk, OnErr};
+ghost use lib.ListN.{length};
+ghost use Rattle.rules.specs.Rules.{message_words};
 ghost use Rattle.controller.specs.Reader.{reading_gives, answer_read, payload_shown};
 
 use rules::refusal::Refusal;
@@ -18,10 +20,14 @@ pub enum Unread {
     Refused(Refusal),
 }
 
-#[tactic(auto, using(crate::proofs::AnswerLaws::reading), unfolding(crate::specs::Reader::answer_read, crate::specs::Reader::read_refusal, crate::specs::Reader::token_good, crate::specs::Reader::token_wrong, crate::specs::Reader::payload_good, crate::specs::Reader::fields_read))]
 /// Reads an answer for a length of 0 to 63, and gives its token's fields where both token and payload are good.
+#[tactic(auto, using(crate::proofs::AnswerLaws::reading), unfolding(crate::specs::Reader::answer_read, crate::specs::Reader::read_refusal, crate::specs::Reader::token_good, crate::specs::Reader::token_wrong, crate::specs::Reader::payload_good, crate::specs::Reader::fields_read))]
 pub fn read_answer(words: &[u16], length: u32) -> Result<Response, Unread>
-    ensures { reading_gives result ≡ answer_read length words.now }
+    ensures answer { reading_gives result ≡ answer_read length words.now }
+    ensures fields { IfOk result (λ fields. fields ≡ (answer_read length words.now).fields) }
+    ensures shown { OnOk result ((answer_read length words.now).payload ≡ true) }
+    ensures not_shown { OnErr result ((answer_read length words.now).payload ≡ false) }
+    ensures count { OnOk result (lib.ListN.length words.now ≡ message_words length) }
 {
     if length > CommandToken::MOST_LENGTH {
         return Err(Unread::Refused(Refusal::Argument));
@@ -44,6 +50,7 @@ pub fn read_answer(words: &[u16], length: u32) -> Result<Response, Unread>
 }
 
 /// Shows the payload of an answer: the middle part of the caller's own words, and an empty part where there is none to show.
+#[tactic(auto, using(crate::proofs::AnswerLaws::reading), unfolding(crate::specs::Reader::payload_shown))]
 pub fn payload_of(words: &[u16], length: u32) -> &[u16]
     ensures { result.now ≡ payload_shown length words.now }
 {

@@ -1,5 +1,6 @@
 //! The sure write: READBACK, WRITE, READBACK.
-ghost use Rattle.std.specs.Prelude.{◌≡◌, true, false, length, IfOk, MatchResult};
+ghost use Rattle.std.specs.Prelude.{◌≡◌, ◌≤◌, true, false, length, IfOk, OnOk, MatchResult};
+ghost use Rattle.std.specs.Bool.{OnTrue};
 ghost use Rattle.rules.specs.Refusal.{refusal_of};
 ghost use Rattle.rules.specs.Rules.{write};
 ghost use Rattle.rules.specs.declared.refusal.Refusal.TheVariants.{State};
@@ -33,7 +34,8 @@ pub enum Verdict {
 // Whether a WRITE of so many words at a sub-address has a token.
 #[tactic(auto, unfolding(token::specs::Command::command_fits))]
 fn write_fits(length: u32, sub_address: u32) -> bool
-    ensures { result ≡ command_fits (command write.code length sub_address) }
+    ensures fits { result ≡ command_fits (command write.code length sub_address) }
+    ensures small { OnTrue result ((length ≤ 63) × (sub_address ≤ 255)) }
 {
     (length <= CommandToken::MOST_LENGTH) & (sub_address <= CommandToken::MOST_SUB_ADDRESS)
 }
@@ -57,7 +59,8 @@ impl SureWrite {
     // The turn of a state in its range. `State` for any other.
     #[tactic(auto, unfolding(crate::specs::Sure::out_of_range))]
     fn in_turn(&self) -> Result<Turn, Refusal>
-        ensures { MatchResult result (λ turn. (number_of_turn turn ≡ self.now.turn) × (out_of_range self.now ≡ false)) (λ e. (e ≡ State) × (out_of_range self.now ≡ true)) }
+        ensures answer { MatchResult result (λ turn. (number_of_turn turn ≡ self.now.turn) × (out_of_range self.now ≡ false)) (λ e. (e ≡ State) × (out_of_range self.now ≡ true)) }
+        ensures fits { OnOk result ((self.now.length ≤ 63) × (self.now.sub_address ≤ 255)) }
     {
         let turn = Turn::try_from(self.turn)?;
         if !write_fits(self.length, self.sub_address) {
@@ -68,7 +71,7 @@ impl SureWrite {
 
     // Its WRITE, with the code from the table.
     fn write_command(&self) -> Command
-        requires { out_of_range self.now ≡ false }
+        requires { (self.now.length ≤ 63) × (self.now.sub_address ≤ 255) }
         ensures { result ≡ write_command self.now }
     {
         let row = rules::row(Name::Write);
@@ -84,16 +87,14 @@ impl SureWrite {
     ///
     /// `State`; `Turn` where words are to be given, or the verdict was said; else as the builder refuses. A refusal leaves state and
     /// buffer as they were.
-    #[tactic(auto, unfolding(crate::specs::Sure::asked, crate::specs::Sure::asked_buffer, crate::specs::Sure::ask_refusal))]
+    #[tactic(auto, unfolding(crate::specs::Sure::asked, crate::specs::Sure::asked_buffer, crate::specs::Sure::ask_refusal, crate::specs::Builder::message_built, crate::specs::Builder::buffer_after))]
     pub fn ask(&mut self, block: &[u16], buffer: &mut [u16]) -> Result<usize, Refusal>
         ensures answer { refusal_of result ≡ (asked self.old block.now (length buffer.old)).refusal }
         ensures words { IfOk result (λ n. n ≡ (asked self.old block.now (length buffer.old)).words) }
         ensures after { self.new ≡ (asked self.old block.now (length buffer.old)).state }
         ensures buffer_after { buffer.new ≡ asked_buffer self.old block.now buffer.old }
     {
-        let Turn::Ask(message) = self.in_turn()? else {
-            return Err(Refusal::Turn);
-        };
+        let message = self.in_turn()?.asks()?;
         let words = message.build(self.write_command(), block, buffer)?;
         self.turn = Turn::Give(message).into();
         Ok(words)
@@ -108,9 +109,7 @@ impl SureWrite {
         ensures answer { refusal_of result ≡ (given self.old words.now).refusal }
         ensures after { self.new ≡ (given self.old words.now).state }
     {
-        let Turn::Give(message) = self.in_turn()? else {
-            return Err(Refusal::Turn);
-        };
+        let message = self.in_turn()?.gives()?;
         let turn = message.turn_given(self.write_command(), words)?;
         self.turn = turn.into();
         Ok(())

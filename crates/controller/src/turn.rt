@@ -1,5 +1,5 @@
 //! The turns of a command between two READBACKs. The rules hold for any command in the middle, of which WRITE is one use.
-ghost use Rattle.std.specs.Prelude.{◌≡◌, true, false, cond, eqb, length, get_or, IfOk};
+ghost use Rattle.std.specs.Prelude.{◌≡◌, ◌+◌, ◌≤◌, cond, eqb, length, get_or, IfOk};
 ghost use Rattle.rules.specs.Refusals as refusal;
 ghost use Rattle.rules.specs.Refusal.{refusal_of};
 ghost use Rattle.rules.specs.Rules.{message_words};
@@ -10,7 +10,7 @@ ghost use Rattle.controller.specs.Turns.{number_of_turn, NamesTurn};
 ghost use Rattle.controller.specs.declared.turn.Turn.TheVariants.{Ask, Give};
 
 use crate::builder::build;
-use crate::reader::{payload_of, read_answer};
+use crate::reader::read_answer;
 use rules::Name;
 use rules::refusal::Refusal;
 use token::command::{Command, CommandToken};
@@ -85,18 +85,17 @@ fn readback() -> Command
 
 // The two words that a good answer to READBACK shows as its payload.
 fn shown_token(words: &[u16]) -> CommandToken
-    requires { read_good words.now ≡ true }
+    requires { 4 ≤ length words.now }
     ensures { result ≡ token_of (get_or words.now 2 0) (get_or words.now 3 0) }
 {
-    let shown = payload_of(words, readback().length as u32);
     CommandToken {
-        first: shown[0],
-        second: shown[1],
+        first: words[2],
+        second: words[3],
     }
 }
 
 // Whether a token is that of a command. A command that does not fit has none.
-#[tactic(auto, unfolding(crate::specs::Sure::is_token))]
+#[tactic(auto, unfolding(crate::specs::Sure::is_token, token::specs::Command::command_built))]
 fn is_token(command: Command, shown: CommandToken) -> bool
     ensures { result ≡ is_token command shown.first shown.second }
 {
@@ -112,6 +111,7 @@ fn is_token(command: Command, shown: CommandToken) -> bool
 
 // The turn after the first READBACK's words. A refused READBACK brings zeros, whose CRC-16 agrees: so the payload has
 // to be a good command token too.
+#[tactic(auto, unfolding(crate::specs::Sure::passes, crate::specs::Sure::read_good, token::specs::Command::command_read, rules::specs::Rules::message_words))]
 fn after_first(words: &[u16]) -> Turn
     ensures { number_of_turn result ≡ cond (passes words.now) 2 7 }
 {
@@ -125,6 +125,7 @@ fn after_first(words: &[u16]) -> Turn
 }
 
 // The turn after the last READBACK's words.
+#[tactic(auto, unfolding(crate::specs::Sure::confirms, crate::specs::Sure::read_good, rules::specs::Rules::message_words))]
 fn after_last(middle: Command, words: &[u16]) -> Turn
     ensures { number_of_turn result ≡ cond (confirms middle words.now) 6 7 }
 {
@@ -133,6 +134,33 @@ fn after_last(middle: Command, words: &[u16]) -> Turn
     };
     let sure = !fields.status.any_set() & is_token(middle, shown_token(words));
     if sure { Turn::Done } else { Turn::Unsure }
+}
+
+impl Turn {
+    /// The message that is asked for at the turn. `Turn` where none is.
+    #[tactic(auto, unfolding(crate::specs::Sure::is_ask))]
+    pub fn asks(self) -> Result<Message, Refusal>
+        ensures answer { refusal_of result ≡ cond (is_ask (number_of_turn self)) refusal.none refusal.turn }
+        ensures turn { IfOk result (λ message. number_of_turn (Ask message) ≡ number_of_turn self) }
+        ensures next { IfOk result (λ message. number_of_turn (Give message) ≡ number_of_turn self + 1) }
+    {
+        match self {
+            Turn::Ask(message) => Ok(message),
+            _ => Err(Refusal::Turn),
+        }
+    }
+
+    /// The message whose words are given at the turn. `Turn` where none are.
+    #[tactic(auto, unfolding(crate::specs::Sure::is_give))]
+    pub fn gives(self) -> Result<Message, Refusal>
+        ensures answer { refusal_of result ≡ cond (is_give (number_of_turn self)) refusal.none refusal.turn }
+        ensures turn { IfOk result (λ message. number_of_turn (Give message) ≡ number_of_turn self) }
+    {
+        match self {
+            Turn::Give(message) => Ok(message),
+            _ => Err(Refusal::Turn),
+        }
+    }
 }
 
 impl Message {

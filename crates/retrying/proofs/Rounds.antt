@@ -12,6 +12,7 @@ use Rattle.rules.specs.Rules.{tick, readback}
 use Rattle.token.specs.declared.command.Command.{Command}
 use Rattle.judge.proofs.Laws.{never}
 use Rattle.card.specs.Whole.{listed}
+use Rattle.std.specs.Prelude.{Ok}
 use Rattle.retry.specs.Rounds.{rounds, may_repeat, may_start, out_of_rounds, counted, settled, rounds_verdict_gives, again_at, rounds_verdict}
 use Rattle.retry.specs.declared.Rounds.{Rounds}
 use Rattle.retry.proofs.StateLaws.{StartLimits, start-limits, Repeats, repeats, ranged-in, start-is}
@@ -270,7 +271,7 @@ module _ (side : Side) (all : Demand3 side) {s : side.State} {memory : List ℕ}
     acted calls x m = took-acted t block (can-send side l p) (calls-idle side l p calls)
 
     -- an open state says that another round begins, or before the first nothing
-    open-says : (e l n : ℕ) → e + l < most → e + l ≡ n → rounds_verdict (rounds t most e l 0) ≡ rounds_verdict_gives (goes_on_with n)
+    open-says : (e l n : ℕ) → e + l < most → e + l ≡ n → rounds_verdict (rounds t most e l 0) ≡ rounds_verdict_gives (Ok (goes_on_with n))
     unfolding rounds_verdict again_at goes_on_with
     open-says e l zero left none = rw (open-in e l 0 (lit≤ tt) left, le-ltb 0 (e + l) (omega arith))
     open-says e l (suc n) left some = rw (open-in e l 0 (lit≤ tt) left, lt-ltb 0 (e + l) (omega arith))
