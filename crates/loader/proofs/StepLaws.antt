@@ -1,23 +1,20 @@
 -- What the tests of start, ask and give tell.
 -- Assumes nothing.
-use Prim.Native.Nat.{ℕ, ◌+◌, ◌≤◌}
+use Prim.Native.Nat.{ℕ, ◌≤◌}
 use native.Mathlib.Omega.{arith}
 use mathlib.Core.Bool.{Bool, true, false, cond, ◌&&◌, ◌||◌}
-use mathlib.Core.List.{List, []}
+use mathlib.Core.List.{List}
 use mathlib.Core.Logic.{◌⊎◌, inl, inr, ⊎_elim}
 use mathlib.Core.Path.{◌≡◌, refl, sym}
-use borrow.Author.Tests.{leb-true, eqb-true, eq-eqb, ne_eqb}
+use borrow.Author.Tests.{leb-true, eqb-true}
 use lib.Dec.{eqb, leb}
-use lib.ListN.{length, take, drop}
+use lib.ListN.{length}
 use Rattle.rules.specs.Refusals as refusal
 use Rattle.rules.specs.Rules.{message_words}
 use Rattle.rules.proofs.Cases.{by-test, by-number}
 use Rattle.token.proofs.Good.{both}
-use Rattle.controller.specs.Base.{base_block}
-use Rattle.controller.specs.Builder.{build_refusal, message_built, buffer_after}
 use Rattle.controller.specs.Sure.{command_at, is_ask, is_give}
-use Rattle.controller.specs.Answers.{MessageBuilt}
-use Rattle.loader.specs.Loader.{block_words, load_goes, out_of_load, base_at, stage_command, stage_block, turn_block, is_size, load_start_refusal, load_started, load_turn, load_ask_refusal, load_asked, load_asked_buffer, load_give_refusal}
+use Rattle.loader.specs.Loader.{load_goes, out_of_load, stage_command, is_size, load_start_refusal, load_started, load_ask_refusal, load_give_refusal}
 use Rattle.loader.specs.Answers.{LoadStarted}
 use Rattle.loader.specs.declared.Loader.{Loader}
 
@@ -68,58 +65,6 @@ module _ (cards least greatest len : ℕ) (h : load_start_refusal cards least gr
           }
 
 -- ---- ask
-
--- the block of a turn's message
-module _ (s : Loader) (table : List ℕ) where
-  pub block-none : (s.turn ≡ 2 → ⊥) → turn_block s table ≡ []
-  unfolding turn_block
-  block-none other = rw (ne_eqb s.turn 2 other)
-
-  pub block-base : s.turn ≡ 2 → s.stage ≡ 0 → turn_block s table ≡ base_block (base_at s.place)
-  unfolding turn_block stage_block
-  block-base middle base = rw (middle, base)
-
-  pub block-part : s.turn ≡ 2 → (s.stage ≡ 0 → ⊥) → length table ≡ s.length
-      → turn_block s table ≡ take (block_words s.length s.place) (drop s.place table)
-  unfolding turn_block stage_block
-  block-part middle block same = rw (middle, ne_eqb s.stage 0 block, same)
-
-twice : (t : Bool) (a b : List ℕ) → cond t (cond t a b) b ≡ cond t a b
-twice true a b = refl
-twice false a b = refl
-
--- in turn, a message is asked for as it is built
-module _ (s : Loader) (inside : out_of_load s ≡ false) (goes : load_goes s ≡ true) (turn : is_ask s.turn ≡ true) (table : List ℕ)
-    (same : length table ≡ s.length) where
-  abbrev built : ℕ → MessageBuilt
-  built room = message_built (command_at (stage_command s) s.turn) (turn_block s table) room
-
-  ask-refusal : (room : ℕ) → load_ask_refusal s table room ≡ (built room).refusal
-  unfolding load_ask_refusal message_built
-  ask-refusal room = rw (inside, goes, turn, eq-eqb _ _ same)
-
-  pub asked-refused : (room : ℕ) → ((built room).refusal ≡ refusal.none → ⊥)
-      → load_asked s table room ≡ record { refusal = (built room).refusal; words = 0; state = s }
-  unfolding load_asked
-  asked-refused room refused = rw (ask-refusal room, ne_eqb _ _ refused)
-
-  pub asked-taken : (room : ℕ) → (built room).refusal ≡ refusal.none
-      → load_asked s table room ≡ record { refusal = refusal.none; words = (built room).words; state = load_turn s (s.turn + 1) }
-  unfolding load_asked message_built
-  asked-taken room none = rw (ask-refusal room, none)
-
-  -- and leaves the buffer as building does
-  pub asked-buffer : (buffer : List ℕ) → load_asked_buffer s table buffer ≡ buffer_after (command_at (stage_command s) s.turn) (turn_block s table) buffer
-  unfolding load_asked_buffer buffer_after message_built
-  asked-buffer buffer =
-      rw (ask-refusal (length buffer))
-      (twice (eqb (build_refusal (command_at (stage_command s) s.turn) (length (turn_block s table)) (length buffer)) refusal.none) _ buffer)
-
--- a table of another length is an Argument, in turn
-pub ask-other : (s : Loader) (table : List ℕ) (room : ℕ) → out_of_load s ≡ false → load_goes s ≡ true → is_ask s.turn ≡ true
-    → (length table ≡ s.length → ⊥) → load_ask_refusal s table room ≡ refusal.argument
-unfolding load_ask_refusal
-ask-other s table room inside goes turn other = rw (inside, goes, turn, ne_eqb _ _ other)
 
 -- an ask that is taken has its turn
 pub record InTurn (s : Loader) : Type 0 where
