@@ -1,7 +1,6 @@
 pub mod Damaged
 pub mod Line
 pub mod Message
-pub mod Places
 pub mod Refusals
 pub mod Turns
 pub mod Undamaged
