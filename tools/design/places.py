@@ -41,14 +41,18 @@ def items(word):
 def functions():
     """Each function: its file, line, name, head (with its clauses) and body."""
     for path, text in sources():
-        for found in re.finditer(
-            r"^( *)(?:pub |pub\(crate\) )?(?:extern \"C\" )?fn (\w+)(.*?)^\1\{\n(.*?)^\1\}", text, re.M | re.S
-        ):
-            yield path, line_of(text, found.start()), found[2], found[3], found[4]
-        for found in re.finditer(
-            r"^( *)(?:pub |pub\(crate\) )?fn (\w+)([^\n]*) \{\n(.*?)^\1\}", text, re.M | re.S
-        ):
-            yield path, line_of(text, found.start()), found[2], found[3], found[4]
+        lines = text.split("\n")
+        for at, line in enumerate(lines):
+            found = re.match(r"^( *)(?:pub |pub\(crate\) )?(?:extern \"C\" )?fn (\w+)", line)
+            if not found or line.rstrip().endswith(";"):
+                continue
+            opened = at
+            while lines[opened].strip() != "{" and not re.match(r"^(?! *(?:requires|ensures)).*\{$", lines[opened]):
+                opened += 1
+            closed = opened + 1
+            while lines[closed] != found[1] + "}":
+                closed += 1
+            yield path, at + 1, found[2], "\n".join(lines[at : opened + 1]), "\n".join(lines[opened + 1 : closed]) + "\n"
 
 
 def fields(body):

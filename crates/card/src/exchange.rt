@@ -8,8 +8,7 @@ ghost use Rattle.card.specs.Card.{word_refusal};
 ghost use Rattle.card.specs.State.{with_message};
 ghost use Rattle.card.specs.Exchange.{response_of, read_word, readback_word, passed_word, payload_word, next_word, check_after, taken, told, took};
 
-use crate::Card;
-use crate::Note;
+use crate::{Card, Note};
 use rules::Name;
 use rules::refusal::Refusal;
 use token::command::{Command, CommandToken};
@@ -24,7 +23,7 @@ fn read_word(memory: &[u16], from: usize, n: usize, check: u16, k: usize) -> u16
     if k < n {
         return memory[from + k];
     }
-    if (k == n) & (0 < n) {
+    if k == n && 0 < n {
         return check;
     }
     0
@@ -82,7 +81,7 @@ impl Card {
         let token = self.token_of();
         let fields = token.fields();
         if !rules::is_command(fields.code, Name::Read)
-            & !rules::is_command(fields.code, Name::Readback)
+            && !rules::is_command(fields.code, Name::Readback)
         {
             return 0;
         }
@@ -117,7 +116,7 @@ impl Card {
         if self.port.message.count < 2 {
             return check;
         }
-        if (sent == 0) & (check == 0) {
+        if sent == 0 && check == 0 {
             return 0;
         }
         crc::check_word(check, sent)

@@ -96,7 +96,7 @@ impl Card {
     fn is_silent(&self, left: u8) -> bool
         ensures { result ≡ silent self.now left }
     {
-        (self.port.message.count == 0) & (left == 0)
+        self.port.message.count == 0 && left == 0
     }
 
     /// Steps 1 to 5 of the words received.
@@ -193,7 +193,7 @@ impl Card {
         if self.release_refusal(size, left).is_err() {
             return false;
         }
-        !self.is_silent(left) & !self.judged_status(left).any_set()
+        !self.is_silent(left) && !self.judged_status(left).any_set()
     }
 
     /// Ends the message, with up to 15 bits of an unfinished word left over: judges it, and acts where it is accepted: State, Size,

@@ -1,7 +1,5 @@
 pub mod AnswerLaws
 pub mod Known
 pub mod MessageLaws
-pub mod Numbers
 pub mod Refusals
-pub mod TurnLaws
 pub mod Unique

@@ -1,22 +1,21 @@
 -- How words come to lie over the first places of a buffer, what a message is made of, and what the builder's tests tell.
 -- Assumes nothing.
 use Prim.Native.Nat.{ℕ, suc, ◌+◌, ◌-◌, ◌≤◌, ◌<◌}
-use native.Mathlib.Numerals.{add-one}
 use native.Mathlib.Omega.{arith}
 use mathlib.Core.Bool.{Bool, true, false, cond, ◌&&◌}
-use mathlib.Core.List.{List, [], ◌∷◌, ◌++◌, append-nil}
+use mathlib.Core.List.{List, [], ◌∷◌, ◌++◌}
 use mathlib.Core.Path.{◌≡◌, refl, sym, ap, ◌∙◌}
 use borrow.Author.Tests.{eq-eqb, ne_eqb, eqb-true, leb-true}
 use borrow.Rule.Slice.PartMut.{put_mid}
 use lib.Dec.{eqb, leb, lit<}
-use lib.ListN.{length, take, drop, set, get_or, replicate, length-append, length-drop, length-replicate, drop_of_length-le}
-use lib.Seq.{take_all, take-suc, length-take-le, drop-drop, drop-cons, set_at, append_snoc}
+use lib.ListN.{length, take, drop, set, replicate, length-append, length-drop, length-replicate}
+use lib.Seq.{take_all, drop-drop}
 use Rattle.crc.specs.Crc.{crc16}
 use Rattle.rules.specs.Refusals as refusal
 use Rattle.rules.specs.Rules.{message_words}
 use Rattle.rules.specs.declared.refusal.Refusal.{Refusal}
 use Rattle.rules.specs.declared.refusal.Refusal.TheVariants.{Argument}
-use Rattle.rules.proofs.OneAnswer.{not-none, same-refusal}
+use Rattle.rules.proofs.OneAnswer.{some-number}
 use Rattle.std.specs.Prelude.{Result, Ok, Err}
 use Rattle.token.proofs.CommandTrip.{command-fields}
 use Rattle.token.proofs.Good.{both}
@@ -28,20 +27,6 @@ use Rattle.controller.specs.Builder.{is_reading, with_check_word, payload, block
 use Rattle.bits.specs.Buffers.{over}
 
 -- ---- words over the first places of a buffer
-
--- one word more, stored behind those that lie there
-pub over-more : (words : List ℕ) (word : ℕ) (buffer : List ℕ) → length words < length buffer
-    → set (over words buffer) (length words) word ≡ over (words ++ (word ∷ [])) buffer
-over-more words word buffer room =
-    rw (drop-cons buffer (length words) 0 room, set_at words _ _ _ (length words) refl, append_snoc, length-append, add-one)
-
--- a turn of the loop that copies
-pub over-next : (words buffer : List ℕ) (i : ℕ) → i < length words → length words ≤ length buffer
-    → set (over (take i words) buffer) i (get_or words i 0) ≡ over (take (i + 1) words) buffer
-over-next words buffer i some room =
-    let taken : length (take i words) ≡ i = length-take-le i words (omega arith) in
-    rw (add-one, take-suc words i 0 some, taken)
-    (rw taken at (over-more (take i words) (get_or words i 0) buffer (omega arith)))
 
 -- lists of no word and of one
 pub no-words : (words : List ℕ) → length words ≡ 0 → words ≡ []
@@ -66,12 +51,6 @@ message-laid first second words rest buffer whole =
 -- as it is lent
 pub tail-lent : (at : ℕ) (buffer : List ℕ) → at ≤ length buffer → take (length buffer - at) (drop at buffer) ≡ drop at buffer
 tail-lent at buffer fits = take_all (length buffer - at) (drop at buffer) (omega (arith, length-drop at buffer))
-
--- the whole buffer when the part is back
-pub tail-back : (at : ℕ) (buffer part : List ℕ) → at ≤ length buffer → put_mid at (length buffer - at) buffer part ≡ take at buffer ++ part
-tail-back at buffer part fits =
-    let none : length (drop at buffer) ≤ length buffer - at = omega (arith, length-drop at buffer) in
-    rw (drop_of_length-le (drop at buffer) none, append-nil)
 
 -- ---- what a message is made of
 
@@ -151,19 +130,12 @@ pub token-built : (f : Command) (r : Result CommandToken Refusal) (t : CommandTo
 unfolding command_built
 token-built f r t made is = built-by (command_fits f) t (command_token f) (ap command_built_gives (sym is) ∙ made)
 
-unbuilt-by : (fits : Bool) (e : Refusal) (made : CommandToken)
-    → command_built_gives (Err e) ≡ cond fits (command_built_gives (Ok made)) (command_built_gives (Err Argument))
-    → (fits ≡ false) × (e ≡ Argument)
-unbuilt-by true e made h = absurd (not-none e (sym (ap (λ (b : Built CommandToken). b.refusal) h)))
-unbuilt-by false e made h = (refl, same-refusal e Argument (ap (λ (b : Built CommandToken). b.refusal) h))
-
--- where none was built, the fields do not fit
-pub token-not-built : (f : Command) (r : Result CommandToken Refusal) (e : Refusal)
-    → command_built_gives r ≡ command_built f.code f.length f.sub_address → r ≡ Err e
-    → (command_fits f ≡ false) × (e ≡ Argument)
-unfolding command_built
-token-not-built f r e made is = unbuilt-by (command_fits f) e (command_token f) (ap command_built_gives (sym is) ∙ made)
-
 -- it has the fields that it was built from
 pub built-fields : (f : Command) (t : CommandToken) → command_fits f ≡ true → t ≡ command_token f → command_fields t.first t.second ≡ f
 built-fields f t fits made = rw made (command-fields f fits)
+
+pub ruleset blocks = (block-length, no-words, one-word)
+
+pub ruleset laying = (message-laid, message-whole)
+
+pub ruleset building = (some-number, eq-eqb, ne_eqb, message-whole, build-passed, token-built, built-fields)

@@ -19,6 +19,7 @@ use Rattle.controller.specs.declared.reader.Unread.TheVariants.{Payload, Token, 
 use Rattle.controller.specs.declared.sure.SureWrite.{SureWrite}
 use Rattle.controller.specs.declared.sure.Verdict.{Verdict}
 use Rattle.controller.specs.declared.sure.Verdict.TheVariants as verdict-as
+use Rattle.controller.specs.declared.turn.Message.{Message}
 use Rattle.controller.specs.declared.turn.Message.TheVariants.{First, Command, Last}
 use Rattle.controller.specs.declared.turn.Turn.{Turn}
 use Rattle.controller.specs.declared.turn.Turn.TheVariants.{Ask, Give, Done, Unsure}
@@ -33,6 +34,8 @@ use Rattle.controller.proofs.turn.Message.build.Reads as build-message
 use Rattle.controller.proofs.turn.Message.command.Reads as command
 use Rattle.controller.proofs.turn.Message.turn_after.Reads as turn-after-message
 use Rattle.controller.proofs.turn.Message.turn_given.Reads as turn-given
+use Rattle.controller.proofs.turn.Turn.asks.Reads as asks
+use Rattle.controller.proofs.turn.Turn.gives.Reads as gives
 use Rattle.controller.proofs.turn.TurnTryFromU8.try_from.Reads as try-from
 use Rattle.controller.proofs.turn.U8FromTurn.from.Reads as from-turn
 use Rattle.controller.proofs.turn.build_turn.Reads as build-turn
@@ -112,6 +115,28 @@ same-named n (Err d) (Err e) p q = ap Err (p.0 ∙ sym q.0)
 
 pub one-try-from : (κs : _) (a : _) (r s : _) (e f : _) → try-from.Post κs a r e → try-from.Post κs a s f → r ≡ s
 one-try-from κs a r s e f p q = same-named _ r s p q
+
+message_at : Turn → Message
+message_at (Ask m) = m
+message_at (Give m) = m
+message_at Done = First
+message_at Unsure = First
+
+-- a message that is named by its turn's number
+same-message : (turn : Message → Turn) → ((m : Message) → message_at (turn m) ≡ m) → (n : ℕ) (r s : Result Message Refusal) → refusal_of r ≡ refusal_of s
+    → IfOk r (λ m. number_of_turn (turn m) ≡ n) → IfOk s (λ m. number_of_turn (turn m) ≡ n) → r ≡ s
+same-message turn back n (Ok a) (Ok b) h p q = ap Ok (sym (back a) ∙ ap message_at (same-turn (turn a) (turn b) (p ∙ sym q)) ∙ back b)
+same-message turn back n (Ok a) (Err e) h p q = absurd (not-none e h)
+same-message turn back n (Err d) (Ok b) h p q = absurd (not-none d (sym h))
+same-message turn back n (Err d) (Err e) h p q = ap Err (same-refusal d e h)
+
+pub one-asks : (κs : _) (a : _) (r s : _) (e f : _) → asks.Post κs a r e → asks.Post κs a s f → r ≡ s
+unfolding message_at
+one-asks κs a r s e f p q = same-message Ask (λ m. refl) _ r s (p.0 ∙ sym q.0) p.1.0 q.1.0
+
+pub one-gives : (κs : _) (a : _) (r s : _) (e f : _) → gives.Post κs a r e → gives.Post κs a s f → r ≡ s
+unfolding message_at
+one-gives κs a r s e f p q = same-message Give (λ m. refl) _ r s (p.0 ∙ sym q.0) p.1 q.1
 
 pub one-from-turn : (κs : _) (a : _) (r s : _) (e f : _) → from-turn.Post κs a r e → from-turn.Post κs a s f → r ≡ s
 one-from-turn κs a r s e f p q = p ∙ sym q

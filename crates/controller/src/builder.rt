@@ -47,6 +47,7 @@ fn words_in(fields: Command, count: usize, room: usize) -> Result<usize, Refusal
 }
 
 // A block and its check word, over the whole of a part. An empty block has neither.
+#[tactic(auto, using(crate::proofs::MessageLaws::blocks), unfolding(crate::specs::Builder::with_check_word))]
 fn write_block(part: &mut [u16], block: &[u16])
     requires { length part.old ≡ length (with_check_word block.now) }
     ensures { part.new ≡ with_check_word block.now }
@@ -60,6 +61,7 @@ fn write_block(part: &mut [u16], block: &[u16])
 }
 
 // A command's payload, with its check word, over the whole of a part.
+#[tactic(auto, unfolding(crate::specs::Builder::payload))]
 fn write_payload(part: &mut [u16], fields: Command, block: &[u16])
     requires { length part.old ≡ length (payload fields block.now) }
     ensures { part.new ≡ payload fields block.now }
@@ -73,6 +75,7 @@ fn write_payload(part: &mut [u16], fields: Command, block: &[u16])
 
 // A message of so many words over a buffer's first places: the token, and the payload from the third place on, for which that part of
 // the buffer is lent on.
+#[tactic(auto, using(crate::proofs::MessageLaws::laying), unfolding(crate::specs::Builder::message))]
 fn write_message(
     buffer: &mut [u16],
     token: CommandToken,
@@ -80,7 +83,9 @@ fn write_message(
     block: &[u16],
     words: usize,
 )
-    requires { (token ≡ command_token fields) × (length (payload fields block.now) + 2 ≡ words) × (words ≤ length buffer.old) }
+    requires token { token ≡ command_token fields }
+    requires words { length (payload fields block.now) + 2 ≡ words }
+    requires room { words ≤ length buffer.old }
     ensures { buffer.new ≡ over (message fields block.now) buffer.old }
 {
     buffer[..2].copy_from_slice(&[token.first, token.second]);
@@ -88,14 +93,15 @@ fn write_message(
 }
 
 // Lays the message of a command that has a token.
-#[tactic(auto, using(crate::proofs::Numbers::numbers), unfolding(crate::specs::Builder::message_built, crate::specs::Builder::buffer_after))]
+#[tactic(auto, using(crate::proofs::MessageLaws::building), unfolding(crate::specs::Builder::message_built, crate::specs::Builder::buffer_after))]
 fn build_from_token(
     token: CommandToken,
     fields: Command,
     block: &[u16],
     buffer: &mut [u16],
 ) -> Result<usize, Refusal>
-    requires { (token ≡ command_token fields) × (command_fits fields ≡ true) }
+    requires token { token ≡ command_token fields }
+    requires fits { command_fits fields ≡ true }
     ensures answer { refusal_of result ≡ (message_built fields block.now (length buffer.old)).refusal }
     ensures words { IfOk result (λ n. n ≡ (message_built fields block.now (length buffer.old)).words) }
     ensures buffer_after { buffer.new ≡ buffer_after fields block.now buffer.old }
@@ -109,7 +115,7 @@ fn build_from_token(
 ///
 /// A code and a length are at most 63, a sub-address at most 255, and a block is as long as its length, but empty for READ and READBACK:
 /// else `Argument`. `Room` where the buffer is shorter than the message. A refusal leaves the buffer as it was.
-#[tactic(auto, using(crate::proofs::Numbers::numbers), unfolding(crate::specs::Builder::message_built, crate::specs::Builder::buffer_after, crate::specs::Builder::build_refusal, token::specs::Command::command_built))]
+#[tactic(auto, using(crate::proofs::MessageLaws::building), unfolding(crate::specs::Builder::message_built, crate::specs::Builder::buffer_after, crate::specs::Builder::build_refusal, token::specs::Command::command_built))]
 pub fn build(
     code: u32,
     length: u32,

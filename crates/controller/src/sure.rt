@@ -71,7 +71,8 @@ impl SureWrite {
 
     // Its WRITE, with the code from the table.
     fn write_command(&self) -> Command
-        requires { (self.now.length ≤ 63) × (self.now.sub_address ≤ 255) }
+        requires length { self.now.length ≤ 63 }
+        requires sub_address { self.now.sub_address ≤ 255 }
         ensures { result ≡ write_command self.now }
     {
         let row = rules::row(Name::Write);

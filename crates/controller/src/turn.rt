@@ -231,8 +231,8 @@ fn build_command(command: Command, block: &[u16], buffer: &mut [u16]) -> Result<
 pub fn command_at(middle: Command, turn: u8) -> Command
     ensures { result ≡ command_at middle turn }
 {
-    match turn {
-        2 | 3 => middle,
+    match Turn::try_from(turn) {
+        Ok(Turn::Ask(message) | Turn::Give(message)) => message.command(middle),
         _ => readback(),
     }
 }
@@ -272,9 +272,8 @@ pub fn build_turn(
 pub fn turn_after(middle: Command, turn: u8, words: &[u16]) -> u8
     ensures { result ≡ turn_after middle turn words.now }
 {
-    let message = match turn {
-        1 => Message::First,
-        3 => Message::Command,
+    let message = match Turn::try_from(turn) {
+        Ok(Turn::Give(message)) => message,
         _ => Message::Last,
     };
     u8::from(message.turn_after(middle, words))

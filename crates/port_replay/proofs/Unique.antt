@@ -11,6 +11,8 @@ pub one-replay : (κs : _) (a : _) (r s : _) (e f : _) → replay.Post κs a r e
     → (r ≡ s) × (e.0.now ≡ f.0.now) × (e.1.0.now ≡ f.1.0.now)
 one-replay κs a r s e f p q =
     let same = p.0 ∙ sym q.0 in
-    let lines = one-line r.line s.line (ap (λ (o : PortOutcome). o.line) same) in
-    (ap₂ (λ (l : Line) (b : Bool). record { line = l; small = b }) lines (ap (λ (o : PortOutcome). o.small) same),
-    ap (λ (o : PortOutcome). o.ports) same, p.1 ∙ sym q.1)
+    let lines = one-line r.line s.line (ap (λ (o : PortOutcome). o.line) same) in (
+      ap₂ (λ (l : Line) (b : Bool). record { line = l; small = b }) lines (ap (λ (o : PortOutcome). o.small) same),
+      ap (λ (o : PortOutcome). o.ports) same,
+      p.1 ∙ sym q.1,
+    )

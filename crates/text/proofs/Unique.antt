@@ -3,12 +3,13 @@
 use mathlib.Core.Bool.{cond}
 use mathlib.Core.Path.{◌≡◌, refl, sym, ap, ◌∙◌}
 use lib.Dec.{eqb}
-use Rattle.rules.proofs.OneAnswer.{with_number, with-own-number, same-value}
+use Rattle.rules.proofs.OneAnswer.{same-value}
 use Rattle.text.specs.Letters as letter
 use Rattle.text.specs.Lines.{Shown, line_gives}
 use Rattle.text.specs.declared.Line.{Line}
 use Rattle.text.specs.declared.Line.TheVariants.{Selected, Taken, Released, ModuleSet, Refused}
 use Rattle.text.proofs.hex_word.Reads as hex-word
+use Rattle.text.proofs.kind.KindTryFromU8.try_from.Reads as kind-from
 use Rattle.text.proofs.put_line.Reads as put-line
 use Rattle.text.proofs.put_port_line.Reads as put-port-line
 use Rattle.text.proofs.RecordFromArrayU8RECORDBYTES.from.Reads as record-from
@@ -21,7 +22,7 @@ line_of s =
     (cond (eqb s.letter letter.capital_w) (Taken s.word s.sent)
     (cond (eqb s.letter letter.capital_r) (Released s.status)
     (cond (eqb s.letter letter.capital_m) ModuleSet
-    (Refused (with_number s.refusal)))))
+    (Refused s.refusal))))
 
 back : (line : Line) → line_of (line_gives line) ≡ line
 unfolding line_of
@@ -29,13 +30,16 @@ back Selected = refl
 back (Taken word sent) = refl
 back (Released bits) = refl
 back ModuleSet = refl
-back (Refused r) = ap Refused (with-own-number r)
+back (Refused number) = refl
 
 pub one-line : (l m : Line) → line_gives l ≡ line_gives m → l ≡ m
 one-line l m e = sym (back l) ∙ ap line_of e ∙ back m
 
 pub one-record-from : (κs : _) (a : _) (r s : _) (e f : _) → record-from.Post κs a r e → record-from.Post κs a s f → r ≡ s
 one-record-from κs a r s e f p q = p ∙ sym q
+
+pub one-kind : (κs : _) (a : _) (r s : _) (e f : _) → kind-from.Post κs a r e → kind-from.Post κs a s f → r ≡ s
+one-kind κs a r s e f p q = p ∙ sym q
 
 pub one-hex-word : (κs : _) (a : _) (r s : _) (e f : _) → hex-word.Post κs a r e → hex-word.Post κs a s f → r ≡ s
 one-hex-word κs a r s e f p q = p ∙ sym q

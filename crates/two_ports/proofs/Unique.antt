@@ -10,7 +10,6 @@ use Rattle.two_ports.proofs.Ports.refusal_at.Reads as refusal-at
 use Rattle.two_ports.proofs.Ports.release.Reads as release
 use Rattle.two_ports.proofs.Ports.select.Reads as select
 use Rattle.two_ports.proofs.Ports.set_module.Reads as set-module
-use Rattle.two_ports.proofs.Ports.set_near.Reads as set-near
 use Rattle.two_ports.proofs.Ports.set_near_port.Reads as set-near-port
 use Rattle.two_ports.proofs.Ports.take.Reads as take
 use Rattle.two_ports.proofs.Ports.tell.Reads as tell
@@ -32,9 +31,6 @@ one-view-from κs a r s e f p q = p ∙ sym q
 
 pub one-is-live : (κs : _) (a : _) (r s : _) (e f : _) → is_live.Post κs a r e → is_live.Post κs a s f → r ≡ s
 one-is-live κs a r s e f p q = p ∙ sym q
-
-pub one-set-near : (κs : _) (a : _) (r s : _) (e f : _) → set-near.Post κs a r e → set-near.Post κs a s f → e.0.now ≡ f.0.now
-one-set-near κs a r s e f p q = p ∙ sym q
 
 pub one-set-near-port : (κs : _) (a : _) (r s : _) (e f : _) → set-near-port.Post κs a r e → set-near-port.Post κs a s f → e.0.now ≡ f.0.now
 one-set-near-port κs a r s e f p q = p ∙ sym q

@@ -44,19 +44,14 @@ impl Ports {
         let mut card = Card::OFF;
         let answer = card.power_up(size);
         let fresh = PortRecord {
-            active: true,
-            dropped: false,
-            held: PortRecord::NO_BASES,
             port: card.port,
+            ..PortRecord::FRESH
         };
         *self = Ports {
             size: card.size,
-            time: card.time,
-            bases: card.bases,
-            stf: card.stf,
-            module_state: card.module_state,
             near: fresh,
             far: fresh,
+            ..Ports::OFF
         };
         answer
     }
@@ -70,7 +65,7 @@ impl Ports {
         if self.is_out_of_range() {
             return Err(Refusal::State);
         }
-        if self.near.port.message.opened | self.far.port.message.opened {
+        if self.near.port.message.opened || self.far.port.message.opened {
             return Err(Refusal::Open);
         }
         if state <= 15 {

@@ -3,7 +3,7 @@
 ghost use Rattle.std.specs.Prelude.{◌≡◌, OnOk};
 ghost use Rattle.rules.specs.Refusals.{none};
 ghost use Rattle.rules.specs.Refusal.{refusal_of};
-ghost use Rattle.two_ports.specs.State.{live, out_of_range, seen_from, view, view_from, with_emptied, with_near, with_near_port, with_port};
+ghost use Rattle.two_ports.specs.State.{live, out_of_range, seen_from, view, view_from, with_emptied, with_near_port, with_port};
 ghost use Rattle.two_ports.specs.Ports.{refusal_at};
 
 use crate::{PortRecord, Ports};
@@ -24,7 +24,7 @@ impl PortRecord {
     pub fn is_live(&self) -> bool
         ensures { result ≡ live self.now }
     {
-        self.active & self.port.message.opened & !self.dropped
+        self.active && self.port.message.opened && !self.dropped
     }
 
     /// No word received, its message open or not; status bits and last token stay.
@@ -78,13 +78,6 @@ impl Ports {
         seen.view()
     }
 
-    /// With another near port.
-    pub fn set_near(&mut self, near: PortRecord)
-        ensures { self.new ≡ with_near self.old near }
-    {
-        self.near = near;
-    }
-
     /// The near port with another message, status or last token.
     pub fn set_near_port(&mut self, port: Port)
         ensures { self.new ≡ with_near_port self.old port }
@@ -99,18 +92,18 @@ impl Ports {
     pub fn is_out_of_range(&self) -> bool
         ensures { result ≡ out_of_range self.now }
     {
-        let sized = (1 <= self.size) & (self.size <= 32768);
-        let active = self.near.active | self.far.active;
-        !sized
-            | (67 < self.near.port.message.count)
-            | (67 < self.far.port.message.count)
-            | (15 < self.module_state)
-            | !active
+        let active = self.near.active || self.far.active;
+        self.size < 1
+            || 32768 < self.size
+            || 67 < self.near.port.message.count
+            || 67 < self.far.port.message.count
+            || 15 < self.module_state
+            || !active
     }
 
     /// What a call on a port refuses: State comes first; then, for a port that there is, what the card that it sees answers.
     #[tactic(auto, unfolding(crate::specs::Ports::refusal_at, crate::specs::State::is_port))]
-    pub fn refusal_at(
+    pub(crate) fn refusal_at(
         &self,
         port: u8,
         size_fits: bool,

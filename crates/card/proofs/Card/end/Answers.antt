@@ -1,5 +1,5 @@
 -- `end` meets its contract: an accepted message lies inside the memory.
-use Rattle.std.proofs.Common.{◌≡◌, sym, ap, ◌∙◌}
+use Rattle.std.proofs.Common.{sym, ap, ◌∙◌}
 use Rattle.token.specs.Response.{any_set}
 use Rattle.card.proofs.Laws.{accepted-tick, accepted-write}
 use Rattle.card.proofs.Card.end.Goals as goal

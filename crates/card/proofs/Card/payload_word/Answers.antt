@@ -1,10 +1,8 @@
 -- `payload_word` meets its contract: a token whose command sends nothing need not be judged, and one that passes has its block inside.
-use Rattle.std.proofs.Common.{◌≡◌, ℕ, Bool, true, false, cond, not, List, refl, sym, ap, ◌∙◌}
-use borrow.Author.Tests.{not-true}
+use Rattle.std.proofs.Common.{◌≡◌, ℕ, Bool, true, false, cond, List, refl, sym, ap, ◌∙◌}
 use Rattle.judge.proofs.Laws.{token-passed, read-inside}
 use Rattle.rules.specs.Rules.{is_command}
 use Rattle.rules.specs.declared.Name.TheVariants.{Read, Readback}
-use Rattle.token.proofs.Good.{both}
 use Rattle.token.specs.Response.{any_set}
 use Rattle.card.specs.Exchange.{fields, heard_status, passed_word, payload_word, word1, word2}
 use Rattle.card.specs.declared.Card.{Card}
@@ -29,13 +27,12 @@ failed : (p : After-any_set) → any_set (heard_status p.args.self.now) ≡ p.an
 failed p =
     sym (p.any_set.ensures ∙ ap any_set (p.token_status.ensures ∙ heard-status p.args.self.now p.token_of-token.ensures))
 
-pub returns-then-is_command : goal.returns-then-is_command
-returns-then-is_command c =
-    let (reads, reads-back) = both (not c.is_command.result) _ c.if-is_command.true in
-    let same = fields-are (goal.at.returns-then-is_command c).After-fields-fields in
+pub returns-then-not-is_command-2 : goal.returns-then-not-is_command-2
+returns-then-not-is_command-2 c =
+    let same = fields-are (goal.at.returns-then-not-is_command-2 c).After-fields-fields in
     sym (nothing-sent c.args.self.now c.args.memory.now c.args.k
-    (rw (← same) (sym c.is_command.ensures ∙ not-true _ reads))
-    (rw (← same) (sym c.is_command-2.ensures ∙ not-true _ reads-back)))
+    (rw (← same) (sym c.is_command.ensures ∙ c.if-not-is_command.true))
+    (rw (← same) (sym c.is_command-then-not-is_command.ensures ∙ c.if-not-is_command-2.true)))
 
 pub passed_word-requires : goal.passed_word-requires
 passed_word-requires c is_read =

@@ -1,5 +1,5 @@
 -- `store` meets its contract: the block lies inside the room.
-use Rattle.std.proofs.Common.{◌≡◌, ap, ◌∙◌, arith}
+use Rattle.std.proofs.Common.{ap, ◌∙◌, arith}
 use Rattle.token.specs.declared.command.Command.{Command}
 use Rattle.card.proofs.Laws.{heard-fields, length-small}
 use Rattle.card.proofs.Card.store.Goals as goal

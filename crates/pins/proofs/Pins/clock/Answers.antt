@@ -15,13 +15,13 @@ quiet c =
     let card = c.args.self.now.card in
     let memory = c.args.memory.now in
     elim c.if-self-eq0.branch [
-      then-self-eq0+in_ok-next w ↦
-        ap (λ (p : Pins). word_refusal p.card (length memory)) w.self-is
-        ∙ ap (λ (d : Card). word_refusal d (length memory)) (w.in_ok-next.ensures.after ∙ ap (λ (t : Told). t.card) (told-quiet card memory (sym w.in_ok-next.ensures.number)))
-        ∙ told-refusal card memory (length memory)
-        ∙ sym w.in_ok-next.ensures.number
-    | else-self-eq0+in_ok-word_refusal w ↦
-        ap (λ (p : Pins). word_refusal p.card (length memory)) w.self-is ∙ sym w.in_ok-word_refusal.ensures.answer
+      | then-self-eq0+in_ok-next w ↦
+          ap (λ (p : Pins). word_refusal p.card (length memory)) w.self-is
+          ∙ ap (λ (d : Card). word_refusal d (length memory)) (w.in_ok-next.ensures.after ∙ ap (λ (t : Told). t.card) (told-quiet card memory (sym w.in_ok-next.ensures.number)))
+          ∙ told-refusal card memory (length memory)
+          ∙ sym w.in_ok-next.ensures.number
+      | else-self-eq0+in_ok-word_refusal w ↦
+          ap (λ (p : Pins). word_refusal p.card (length memory)) w.self-is ∙ sym w.in_ok-word_refusal.ensures.answer
     ]
 
 pub returns-in_err-take-clause-answer : goal.returns-in_err-take-clause-answer
