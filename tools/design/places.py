@@ -127,7 +127,8 @@ def counted_loops():
 def by_hand():
     """4: copies, comparisons of all parts, conversions and letters by hand."""
     for path, line, name, head, body in functions():
-        if name.endswith("_copy") or re.search(r"^(joined\w*|word_of|digit_of|small_letter|smaller|larger|hex_\w+)$", name):
+        by_name = re.search(r"^(joined(_four)?|word_of|digit_of|small_letter|smaller|larger|hex_\w+)$", name)
+        if name.endswith("_copy") or by_name and not re.search(r"\bfrom(_be_bytes)?\(", body):
             yield f"{path}:{line} {name}"
         if re.search(r"\((\w+)\.(\w+) == (\w+)\.\2\) & \(\1\.(\w+) == \3\.\4\)", body):
             yield f"{path}:{line} {name}: compared part by part"
@@ -163,7 +164,7 @@ def lengths_beside():
             yield f"{path}:{line} {name}"
     for path, line, name, head, body in functions():
         parameters = head.split("ensures")[0].split("requires")[0]
-        if re.search(r"(\w+): &(?:mut )?\[u\d+\], (?:count|place|used): usize", parameters):
+        if re.search(r"(\w+): &(?:mut )?\[u\d+\], (?:count|used|length): usize", parameters):
             yield f"{path}:{line} {name}"
 
 

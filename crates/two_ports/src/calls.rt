@@ -76,6 +76,7 @@ impl Ports {
 
     /// Sets STF and the module state, 0 to 15, which both ports show. Refused with State, Open (a message on either port, dead or live) or
     /// Argument.
+    // As a card's own, in the fields of another struct.
     #[tactic(auto, unfolding(crate::specs::Ports::module_ports))]
     pub fn set_module(&mut self, stf: bool, state: u8) -> Result<(), Refusal>
         ensures answer { refusal_of result ≡ (module_ports self.old stf state).refusal }
