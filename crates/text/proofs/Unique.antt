@@ -10,6 +10,8 @@ use Rattle.text.specs.declared.Line.{Line}
 use Rattle.text.specs.declared.Line.TheVariants.{Selected, Taken, Released, ModuleSet, Refused}
 use Rattle.text.proofs.hex_word.Reads as hex-word
 use Rattle.text.proofs.kind.KindTryFromU8.try_from.Reads as kind-from
+use Rattle.text.proofs.line_text.Reads as line-text
+use Rattle.text.proofs.port_line_text.Reads as port-line-text
 use Rattle.text.proofs.put_line.Reads as put-line
 use Rattle.text.proofs.put_port_line.Reads as put-port-line
 use Rattle.text.proofs.RecordFromArrayU8RECORDBYTES.from.Reads as record-from
@@ -43,6 +45,12 @@ one-kind κs a r s e f p q = p ∙ sym q
 
 pub one-hex-word : (κs : _) (a : _) (r s : _) (e f : _) → hex-word.Post κs a r e → hex-word.Post κs a s f → r ≡ s
 one-hex-word κs a r s e f p q = p ∙ sym q
+
+pub one-line-text : (κs : _) (a : _) (r s : _) (e f : _) → line-text.Post κs a r e → line-text.Post κs a s f → r ≡ s
+one-line-text κs a r s e f p q = p ∙ sym q
+
+pub one-port-line-text : (κs : _) (a : _) (r s : _) (e f : _) → port-line-text.Post κs a r e → port-line-text.Post κs a s f → r ≡ s
+one-port-line-text κs a r s e f p q = p ∙ sym q
 
 pub one-put-line : (κs : _) (a : _) (r s : _) (e f : _) → put-line.Post κs a r e → put-line.Post κs a s f → (r ≡ s) × (e.0.now ≡ f.0.now)
 one-put-line κs a r s e f p q = (same-value _ r s (p.0 ∙ sym q.0) p.1.0 q.1.0, p.1.1 ∙ sym q.1.1)
