@@ -3,10 +3,11 @@
 
 - a row names a file or a definition that is not there,
 - a row of COMPLIANCE has no contract or theorem (a wrong program alone is none), or names a whole file as its run,
-- a public function of a library is missing in UNIQUENESS, or has no refusal law and does not say why.
+- a public function or a conversion of a library is missing in UNIQUENESS, or has no refusal law and does not say why.
 
 A reference stands in backticks: `path` or `path: name, name`. The name has to be declared in the file, not just used.
 """
+import collections
 import pathlib
 import re
 import sys
@@ -69,14 +70,22 @@ def unanswered(row):
             yield f"a whole file as a run: {row[0][:60]}"
 
 
+def operations(text):
+    """The public functions of a source, and its conversions, each as often as the source has one of its name."""
+    public = re.findall(r"^\s*pub (?:extern \"C\" )?fn (\w+)", text, re.MULTILINE)
+    conversions = re.findall(r"^impl (?:Try)?From<.*?^    fn (\w+)", text, re.MULTILINE | re.DOTALL)
+    return collections.Counter(public + conversions)
+
+
 def unlisted(listed):
-    """Public functions of libraries that UNIQUENESS does not have."""
+    """Operations of libraries that UNIQUENESS does not have, or not as often as their source has them: a name may be that of two types."""
     for source in sorted(TOP.glob("crates/*/src/*.rt")):
         if (source.parent / "main.rt").exists():
             continue
-        for name in re.findall(r"^\s*pub (?:extern \"C\" )?fn (\w+)", source.read_text(), re.MULTILINE):
-            if (str(source.relative_to(TOP)), [name]) not in listed:
-                yield f"{UNIQUENESS} does not list {source.relative_to(TOP)}: {name}"
+        path = str(source.relative_to(TOP))
+        for name, times in sorted(operations(source.read_text()).items()):
+            if listed.count((path, [name])) < times:
+                yield f"{UNIQUENESS} does not list {path}: {name} as often as the {times} there are"
 
 
 def lawless(row):

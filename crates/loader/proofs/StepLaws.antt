@@ -3,18 +3,19 @@
 use Prim.Native.Nat.{ℕ, ◌≤◌}
 use native.Mathlib.Omega.{arith}
 use mathlib.Core.Bool.{Bool, true, false, cond, ◌&&◌, ◌||◌}
-use mathlib.Core.List.{List}
+use mathlib.Core.List.{List, []}
 use mathlib.Core.Logic.{◌⊎◌, inl, inr, ⊎_elim}
 use mathlib.Core.Path.{◌≡◌, refl, sym}
-use borrow.Author.Tests.{leb-true, eqb-true}
+use borrow.Author.Tests.{leb-true, eqb-true, ne_eqb}
 use lib.Dec.{eqb, leb}
-use lib.ListN.{length}
+use lib.ListN.{length, take, drop}
 use Rattle.rules.specs.Refusals as refusal
 use Rattle.rules.specs.Rules.{message_words}
 use Rattle.rules.proofs.Cases.{by-test, by-number}
 use Rattle.token.proofs.Good.{both}
+use Rattle.controller.specs.Base.{base_block}
 use Rattle.controller.specs.Sure.{command_at, is_ask, is_give}
-use Rattle.loader.specs.Loader.{load_goes, out_of_load, stage_command, is_size, load_start_refusal, load_started, load_ask_refusal, load_give_refusal}
+use Rattle.loader.specs.Loader.{block_words, load_goes, out_of_load, base_at, stage_command, stage_block, turn_block, is_size, load_start_refusal, load_started, load_ask_refusal, load_give_refusal}
 use Rattle.loader.specs.Answers.{LoadStarted}
 use Rattle.loader.specs.declared.Loader.{Loader}
 
@@ -65,6 +66,21 @@ module _ (cards least greatest len : ℕ) (h : load_start_refusal cards least gr
           }
 
 -- ---- ask
+
+-- the block of a turn's message
+module _ (s : Loader) (table : List ℕ) where
+  pub block-none : (s.turn ≡ 2 → ⊥) → turn_block s table ≡ []
+  unfolding turn_block
+  block-none other = rw (ne_eqb s.turn 2 other)
+
+  pub block-base : s.turn ≡ 2 → s.stage ≡ 0 → turn_block s table ≡ base_block (base_at s.place)
+  unfolding turn_block stage_block
+  block-base middle base = rw (middle, base)
+
+  pub block-part : s.turn ≡ 2 → (s.stage ≡ 0 → ⊥) → length table ≡ s.length
+      → turn_block s table ≡ take (block_words s.length s.place) (drop s.place table)
+  unfolding turn_block stage_block
+  block-part middle block same = rw (middle, ne_eqb s.stage 0 block, same)
 
 -- an ask that is taken has its turn
 pub record InTurn (s : Loader) : Type 0 where

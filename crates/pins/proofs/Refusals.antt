@@ -1,10 +1,11 @@
--- A refusal changes nothing: where the number that an operation answers is not 0, card, shifter and lent memory are as they were given, and the bit given back is 0. A refused power-up gives the card's power-up state with size 0.
+-- A refusal changes nothing: where the number that an operation answers is not 0, card, shifter and lent memory are as they were given, and the bit given back is 0. A refused power-up gives the card's power-up state with size 0, and leaves card and shifter that the caller holds as they were.
 -- Assumes nothing.
 use Prim.Native.Nat.{ℕ}
-use mathlib.Core.Bool.{Bool, false}
+use mathlib.Core.Bool.{Bool, false, cond}
 use mathlib.Core.List.{List}
 use mathlib.Core.Path.{◌≡◌, refl, ap}
 use borrow.Author.Tests.{eq-eqb, ne_eqb}
+use lib.Dec.{eqb}
 use lib.ListN.{length}
 use Rattle.rules.specs.Refusals as refusal
 use Rattle.rules.proofs.Cases.{by-number}
@@ -13,9 +14,10 @@ use Rattle.card.specs.Release.{released}
 use Rattle.card.specs.State.{fresh}
 use Rattle.card.specs.declared.Card.{Card}
 use Rattle.card.specs.Answers.{CardAfter}
+use Rattle.card.proofs.Cases.{powered-case}
 use Rattle.card.proofs.Refusals.{powered-refused, module-refused, released-refused, memory-refused}
 use Rattle.shifter.specs.Shifter.{cleared, left_over}
-use Rattle.pins.specs.Pins.{pins_of, shifter_refusal, behind_shifter, answered, powered_pins, selected_pins, module_pins, clocked, released_pins, memory_after_pins}
+use Rattle.pins.specs.Pins.{pins_of, shifter_refusal, behind_shifter, answered, gives_pins, powered_pins, powered_up_pins, selected_pins, module_pins, clocked, released_pins, memory_after_pins}
 use Rattle.pins.specs.Answers.{Clocked}
 use Rattle.pins.specs.declared.Pins.{Pins}
 use Rattle.pins.specs.Answers.{PinsAfter}
@@ -24,7 +26,21 @@ pub powered-pins-refused : (size : ℕ) → ((powered_pins size).refusal ≡ ref
 unfolding powered_pins
 powered-pins-refused size h = ap (λ (c : Card). pins_of c cleared) (powered-refused size h)
 
+-- card and shifter before their power-up become what the power-up gives, refused or not
+pub powered-up-pins-off : (size : ℕ) → powered_up_pins (pins_of (fresh 0) cleared) size ≡ powered_pins size
+unfolding powered_up_pins powered_pins
+powered-up-pins-off size =
+    powered-case
+    (λ (a : CardAfter).
+    cond (eqb a.refusal refusal.none) (gives_pins refusal.none (pins_of a.card cleared)) (gives_pins a.refusal (pins_of (fresh 0) cleared))
+    ≡ gives_pins a.refusal (pins_of a.card cleared))
+    size refl (λ s. refl)
+
 module _ (p : Pins) where
+  pub powered-up-pins-refused : (size : ℕ) → ((powered_up_pins p size).refusal ≡ refusal.none → ⊥) → (powered_up_pins p size).pins ≡ p
+  unfolding powered_up_pins
+  powered-up-pins-refused size = by-number (λ (r : PinsAfter). (r.refusal ≡ refusal.none → ⊥) → r.pins ≡ p) (powered_pins size).refusal (λ _ h. refl) (λ _ h. absurd (h refl))
+
   -- where the card's answer keeps the card, so does the answer at the pins
   answered-refused : (a : CardAfter) → ((a.refusal ≡ refusal.none → ⊥) → a.card ≡ p.card) → ((answered p a).refusal ≡ refusal.none → ⊥) → (answered p a).pins ≡ p
   answered-refused a kept =

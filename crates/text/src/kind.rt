@@ -24,12 +24,17 @@ impl TryFrom<u8> for Kind {
     ghost try_from_gives = { λ number r. r ≡ kind_of number };
 
     fn try_from(number: u8) -> Result<Kind, Refusal> {
-        match number {
-            1 => Ok(Kind::Select),
-            2 => Ok(Kind::Word),
-            3 => Ok(Kind::Release),
-            4 => Ok(Kind::Module),
-            _ => Err(Refusal::Record),
+        // By the numbers above, so that the proof is of these.
+        if number == Kind::Select as u8 {
+            Ok(Kind::Select)
+        } else if number == Kind::Word as u8 {
+            Ok(Kind::Word)
+        } else if number == Kind::Release as u8 {
+            Ok(Kind::Release)
+        } else if number == Kind::Module as u8 {
+            Ok(Kind::Module)
+        } else {
+            Err(Refusal::Record)
         }
     }
 }

@@ -4,7 +4,7 @@ ghost use Rattle.rules.specs.Refusal.{refusal_of};
 ghost use Rattle.rules.specs.Refusals.{none};
 ghost use Rattle.card.specs.Card.{word_refusal};
 ghost use Rattle.two_ports.specs.State.{seen_from, view};
-ghost use Rattle.two_pins.specs.PortPins.{pins_from, behind_shifters, left_at, powered_port_pins, module_port_pins, selected_port_pins, clock_near, bit_near, clocked_port, released_port_pins, memory_after_port_pins};
+ghost use Rattle.two_pins.specs.PortPins.{pins_from, behind_shifters, left_at, powered_port_pins, powered_up_port_pins, module_port_pins, selected_port_pins, clock_near, bit_near, clocked_port, released_port_pins, memory_after_port_pins};
 
 use crate::PortPins;
 use pins::Pins;
@@ -45,14 +45,32 @@ impl PortPins {
         Ok(())
     }
 
-    /// Powers up with a memory of `size` words, 1 to 32,768, behind clear shifters. Refused with Size; the state is then that of size 0.
+    /// The card that a power-up with a memory of `size` words, 1 to 32,768, gives, behind clear shifters. A refused one gives the state of size 0.
+    /// Refused with Size.
     #[tactic(auto, unfolding(crate::specs::PortPins::powered_port_pins))]
-    pub fn power_up(&mut self, size: usize) -> Result<(), Refusal>
-        ensures answer { refusal_of result ≡ (powered_port_pins size).refusal }
-        ensures after { self.new ≡ (powered_port_pins size).pins }
+    pub fn powered(size: usize) -> (PortPins, Result<(), Refusal>)
+        ensures answer { refusal_of result.1 ≡ (powered_port_pins size).refusal }
+        ensures pins { result.0 ≡ (powered_port_pins size).pins }
     {
-        *self = PortPins::OFF;
-        self.ports.power_up(size)
+        let (ports, answer) = Ports::powered(size);
+        let pins = PortPins {
+            ports,
+            ..PortPins::OFF
+        };
+        (pins, answer)
+    }
+
+    /// Powers it up with a memory of `size` words, 1 to 32,768, behind clear shifters, whatever all were. Refused with Size.
+    #[tactic(auto, unfolding(crate::specs::PortPins::powered_up_port_pins))]
+    pub fn power_up(&mut self, size: usize) -> Result<(), Refusal>
+        ensures answer { refusal_of result ≡ (powered_up_port_pins self.old size).refusal }
+        ensures after { self.new ≡ (powered_up_port_pins self.old size).pins }
+        ensures refused { OnErr result (self.new ≡ self.old) }
+    {
+        let (pins, answer) = PortPins::powered(size);
+        answer?;
+        *self = pins;
+        Ok(())
     }
 
     /// Sets STF and the module state, 0 to 15. The shifters stay. Refused with State, Open or Argument.

@@ -4,7 +4,7 @@ ghost use Rattle.rules.specs.Refusal.{refusal_of};
 ghost use Rattle.rules.specs.Refusals.{none};
 ghost use Rattle.card.specs.Card.{word_refusal as card_word_refusal};
 ghost use Rattle.two_ports.specs.State.{view, view_from};
-ghost use Rattle.two_ports.specs.Ports.{powered_ports, ports_module_refusal, module_ports, ports_select_refusal, select_near, selected_ports, ports_word_refusal, tell_near, word_near, told_ports, take_near, took_ports};
+ghost use Rattle.two_ports.specs.Ports.{powered_ports, powered_up_ports, ports_module_refusal, module_ports, ports_select_refusal, select_near, selected_ports, ports_word_refusal, tell_near, word_near, told_ports, take_near, took_ports};
 
 use crate::{PortRecord, Ports};
 use card::{Card, Port};
@@ -34,26 +34,38 @@ impl Ports {
         far: PortRecord::FRESH,
     };
 
-    /// Powers up with a memory of `size` words, 1 to 32,768: both ports active, and all else as the card with one port has it. Refused with Size;
-    /// the state is then that of size 0.
+    /// The card that a power-up with a memory of `size` words, 1 to 32,768, gives: both ports active, and all else as the card with one port has it.
+    /// A refused one gives the state of size 0. Refused with Size.
     #[tactic(auto, unfolding(crate::specs::Ports::powered_ports, crate::specs::State::fresh_ports, card::specs::Card::powered, card::specs::State::fresh))]
-    pub fn power_up(&mut self, size: usize) -> Result<(), Refusal>
-        ensures answer { refusal_of result ≡ (powered_ports size).refusal }
-        ensures after { self.new ≡ (powered_ports size).ports }
+    pub fn powered(size: usize) -> (Ports, Result<(), Refusal>)
+        ensures answer { refusal_of result.1 ≡ (powered_ports size).refusal }
+        ensures ports { result.0 ≡ (powered_ports size).ports }
     {
-        let mut card = Card::OFF;
-        let answer = card.power_up(size);
+        let (card, answer) = Card::powered(size);
         let fresh = PortRecord {
             port: card.port,
             ..PortRecord::FRESH
         };
-        *self = Ports {
+        let ports = Ports {
             size: card.size,
             near: fresh,
             far: fresh,
             ..Ports::OFF
         };
-        answer
+        (ports, answer)
+    }
+
+    /// Powers it up with a memory of `size` words, 1 to 32,768, whatever it was. Refused with Size.
+    #[tactic(auto, unfolding(crate::specs::Ports::powered_up_ports))]
+    pub fn power_up(&mut self, size: usize) -> Result<(), Refusal>
+        ensures answer { refusal_of result ≡ (powered_up_ports self.old size).refusal }
+        ensures after { self.new ≡ (powered_up_ports self.old size).ports }
+        ensures refused { OnErr result (self.new ≡ self.old) }
+    {
+        let (ports, answer) = Ports::powered(size);
+        answer?;
+        *self = ports;
+        Ok(())
     }
 
     // ---- module state
@@ -96,7 +108,7 @@ impl Ports {
         ensures { refusal_of result ≡ ports_select_refusal self.now port }
     {
         let mut card = self.view_from(port);
-        self.refusal_at(port, true, card.select())
+        self.answer_at(port, true, card.select())
     }
 
     // An active port gets an empty message and the bases as they stand. An inactive one is only selected: its message is dead, and stays so when
@@ -138,7 +150,7 @@ impl Ports {
         ensures seen { OnOk result (card_word_refusal (view_from port self.now) size ≡ none) }
     {
         let seen = self.view_from(port).word_refusal(size);
-        self.refusal_at(port, size == self.size, seen)
+        self.answer_at(port, size == self.size, seen)
     }
 
     // A live message's word is the one of the card that the port sees; a dead message's is 0, and leaves no note.

@@ -107,7 +107,7 @@ impl Ports {
         ensures seen { OnOk result (card_release_refusal (view_from port self.now) size left ≡ none) }
     {
         let seen = self.view_from(port).release_refusal(size, left);
-        self.refusal_at(port, size == self.size, seen)
+        self.answer_at(port, size == self.size, seen)
     }
 
     /// Ends a port's message, with `left` bits, 0 to 15, of an unfinished word left over. Only here may memory change. Refused with State, Size,

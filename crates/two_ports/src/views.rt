@@ -3,7 +3,7 @@
 ghost use Rattle.std.specs.Prelude.{◌≡◌, OnOk};
 ghost use Rattle.rules.specs.Refusals.{none};
 ghost use Rattle.rules.specs.Refusal.{refusal_of};
-ghost use Rattle.two_ports.specs.State.{live, out_of_range, seen_from, view, view_from, with_emptied, with_near_port, with_port};
+ghost use Rattle.two_ports.specs.State.{live, out_of_range, seen_from, view, view_from, with_emptied, with_near, with_near_port, with_port};
 ghost use Rattle.two_ports.specs.Ports.{refusal_at};
 
 use crate::{PortRecord, Ports};
@@ -11,6 +11,15 @@ use card::{Card, Message, Port};
 use judge::Bases;
 use rules::refusal::Refusal;
 use std::mem;
+
+/// A port with no word received, its message open or not; status bits and last token stay.
+pub fn with_emptied(port: Port, opened: bool) -> Port
+    ensures { result ≡ with_emptied port opened }
+{
+    let mut next = port;
+    next.message = Message::empty(opened);
+    next
+}
 
 impl PortRecord {
     /// What a port keeps of bases while no live message is open.
@@ -78,6 +87,15 @@ impl Ports {
         seen.view()
     }
 
+    /// It with another near port, and all else as it is.
+    pub fn with_near(self, near: PortRecord) -> Ports
+        ensures { result ≡ with_near self near }
+    {
+        let mut next = self;
+        next.near = near;
+        next
+    }
+
     /// The near port with another message, status or last token.
     pub fn set_near_port(&mut self, port: Port)
         ensures { self.new ≡ with_near_port self.old port }
@@ -101,9 +119,27 @@ impl Ports {
             || !active
     }
 
+    /// The number of what a call on a port refuses, 0 for none: State comes first; then, for a port that there is, the number of the card that it
+    /// sees. For any other port, Size where lent memory has another size, and Argument.
+    // `answer_at` by number: it answers for every number, and an answer has those of the refusals alone.
+    #[tactic(auto, unfolding(crate::specs::Ports::refusal_at, crate::specs::State::is_port))]
+    pub fn refusal_at(&self, port: u8, size_fits: bool, number: u8) -> u8
+        ensures { result ≡ refusal_at self.now port size_fits number }
+    {
+        if self.is_out_of_range() {
+            Refusal::State.number()
+        } else if port < 2 {
+            number
+        } else if size_fits {
+            Refusal::Argument.number()
+        } else {
+            Refusal::Size.number()
+        }
+    }
+
     /// What a call on a port refuses: State comes first; then, for a port that there is, what the card that it sees answers.
     #[tactic(auto, unfolding(crate::specs::Ports::refusal_at, crate::specs::State::is_port))]
-    pub(crate) fn refusal_at(
+    pub(crate) fn answer_at(
         &self,
         port: u8,
         size_fits: bool,
