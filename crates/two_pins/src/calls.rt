@@ -3,8 +3,9 @@ ghost use Rattle.std.specs.Prelude.{◌≡◌, ◌≤◌, IfOk, OnErr, OnOk, len
 ghost use Rattle.rules.specs.Refusal.{refusal_of};
 ghost use Rattle.rules.specs.Refusals.{none};
 ghost use Rattle.card.specs.Card.{word_refusal};
-ghost use Rattle.two_ports.specs.State.{seen_from, view};
-ghost use Rattle.two_pins.specs.PortPins.{pins_from, behind_shifters, left_at, powered_port_pins, powered_up_port_pins, module_port_pins, selected_port_pins, clock_near, bit_near, clocked_port, released_port_pins, memory_after_port_pins};
+ghost use Rattle.shifter.specs.Shifter.{cleared};
+ghost use Rattle.two_ports.specs.State.{fresh_ports, seen_from, view};
+ghost use Rattle.two_pins.specs.PortPins.{port_pins_of, pins_from, behind_shifters, left_at, powered_port_pins, powered_up_port_pins, module_port_pins, selected_port_pins, clock_near, bit_near, clocked_port, released_port_pins, memory_after_port_pins};
 
 use crate::PortPins;
 use pins::Pins;
@@ -12,6 +13,13 @@ use rules::refusal::Refusal;
 use shifter::Shifter;
 use std::mem;
 use two_ports::Ports;
+
+// `OFF` is what its docstring says.
+fn off_port_pins() -> PortPins
+    ensures { result ≡ port_pins_of (fresh_ports 0) cleared cleared }
+{
+    PortPins::OFF
+}
 
 impl PortPins {
     /// Before power-up: the power-up state of size 0.
@@ -55,7 +63,7 @@ impl PortPins {
         let (ports, answer) = Ports::powered(size);
         let pins = PortPins {
             ports,
-            ..PortPins::OFF
+            ..off_port_pins()
         };
         (pins, answer)
     }

@@ -3,7 +3,7 @@ ghost use Rattle.std.specs.Prelude.{◌≡◌, IfOk, OnOk, OnErr, length};
 ghost use Rattle.rules.specs.Refusal.{refusal_of};
 ghost use Rattle.rules.specs.Refusals.{none};
 ghost use Rattle.card.specs.Card.{word_refusal as card_word_refusal};
-ghost use Rattle.two_ports.specs.State.{view, view_from};
+ghost use Rattle.two_ports.specs.State.{fresh_ports, view, view_from};
 ghost use Rattle.two_ports.specs.Ports.{powered_ports, powered_up_ports, ports_module_refusal, module_ports, ports_select_refusal, select_near, selected_ports, ports_word_refusal, tell_near, word_near, told_ports, take_near, took_ports};
 
 use crate::{PortRecord, Ports};
@@ -18,6 +18,13 @@ impl PortRecord {
         held: PortRecord::NO_BASES,
         port: Port::FRESH,
     };
+}
+
+// `OFF` is what its docstring says.
+fn off_ports() -> Ports
+    ensures { result ≡ fresh_ports 0 }
+{
+    Ports::OFF
 }
 
 impl Ports {
@@ -50,7 +57,7 @@ impl Ports {
             size: card.size,
             near: fresh,
             far: fresh,
-            ..Ports::OFF
+            ..off_ports()
         };
         (ports, answer)
     }
