@@ -3,6 +3,7 @@ pub mod Barred
 pub mod InWords
 pub mod PinsBeside
 pub mod Plays
+pub mod PowerUps
 pub mod RoundsPlays
 pub mod RoundsTheorem
 pub mod Theorem
